@@ -64,7 +64,7 @@ THEMES = [
         "Nodes, styles, the browser object, persistent arrays and binary tables.",
         "dom_objects browser_objects persistent_arrays binary_table",
     ),
-    Theme("What scripts do", "How programs run, over any host.", "es_eval es_shapes"),
+    Theme("What scripts do", "How programs run, over any host.", "es_eval es_frames es_shapes"),
     Theme(
         "Values and built-ins of scripts",
         "Numbers, texts, objects and arrays, and what is called on them.",
@@ -84,6 +84,7 @@ SOURCES = {
     r"ARIB STD-B24,? volume 3": "ARIB STD-B24 volume 3",
     r"ARIB STD-B10": "ARIB STD-B10",
     r"ECMA-262": "ECMA-262 second edition",
+    r"third\s+edition": "ECMA-262 third edition",
     r"CSS level 1": "CSS level 1",
     r"CSS level 2": "CSS level 2",
     r"DOM level 1": "DOM level 1",

@@ -20,7 +20,7 @@ from transport import EventMessage, Module, descriptor, dii_section, event_messa
 MOST_BYTES = 1 << 20  # of a module
 MOST_LEVELS = 64
 MOST_NODES = 16_384
-MOST_CALLS = 64
+MOST_CALLS = 256
 KEYS = [*range(1, 15), *range(18, 25)]
 ENTITY = b""  # the info of a module that holds an entity
 LOAD = b"load /40/0000"
@@ -170,7 +170,7 @@ HANDLERS = ["onload", "onunload", "onkeydown", "onkeyup", "onclick", "onfocus", 
 # The attributes of event items, each with values that it may have.
 ITEM_ATTRIBUTES = {
     b"id": [b"m", b"x"],
-    b"type": [b"EventMessageFired", b"EventMessageFired", b"ModuleUpdated", b"DataButtonPressed", b"ModuleLocked", b"TimerFired"],
+    b"type": [b"EventMessageFired", b"EventMessageFired", b"ModuleUpdated", b"DataButtonPressed", b"ModuleLocked", b"DataEventChanged", b"TimerFired"],
     b"subscribe": [b"subscribe", b"subscribe", b"subscribe", b""],
     b"es_ref": [b"/40", b"arib-dc://h/40", b"/41", b""],
     b"message_group_id": [b"1", b"1", b"255", b"x"],

@@ -1,12 +1,15 @@
 #!/usr/bin/env python3
-"""Measures how long prepare_recording.py and extract.py take over a large recording.
+"""Measures how long prepare_recording.py, extract.py and report.py take over a large recording.
 
-usage: measure_recording.py [--megabytes N] [--multiplexed]
+usage: measure_recording.py [--megabytes N] [--multiplexed [--share N]] [--data-only] [--program PROGRAM]
 
 It makes a recording of N million bytes (300) in packets of 192 bytes: one packet in 10 is on the PIDs of two components, each with four modules
-of 200,000 to 600,000 bytes that zlib made smaller, and whose carousels repeat; the others are random. With --multiplexed it is one that ffmpeg
-makes, of two services with picture and sound at 16 Mbit/s: one packet in six is on the PIDs of three such components, the PMTs
-change three times, and it is cut in mid-packet at both ends. Each command runs once: `list`, `unpack`, `unpack --data-only`, and extract.py. Told are its
+of 200,000 to 600,000 bytes that zlib made smaller, and whose carousels repeat; the others are random. The first component also has the page of the
+example `weather`, with its pictures. With --multiplexed it is one that ffmpeg
+makes, of two services with picture and sound at 16 Mbit/s: one packet in six, or in N, is on the PIDs of three such components, the PMTs
+change three times, and it is cut in mid-packet at both ends. Each command runs once: `list`, `unpack`, extract.py and `unpack --data-only`; with --data-only
+the first two are left out. With a
+PROGRAM each stream that came of it is replayed, and its report written; the lines have to be the same, but for the packets in `end`. Told are its
 time and its greatest resident memory. Status: 0 where all were done, 1 where one wasn't, 2 where there is no ffmpeg.
 """
 
@@ -20,9 +23,10 @@ import time
 import zlib
 from itertools import chain, cycle, islice
 
-from places import USERS
+from places import ROOT, USERS
 
 from multiplexed_recordings import Rate, Stage, is_possible, repeated, with_data, write_multiplex
+from shown_pages import Recording
 from transport import (
     DATA_STREAM,
     PACKET_SIZE,
@@ -38,7 +42,8 @@ from transport import (
     pmt_section,
 )
 
-TOOL, EXTRACT = str(USERS / "prepare_recording.py"), str(USERS / "extract.py")
+TOOL, EXTRACT, REPORT = (str(USERS / name) for name in ("prepare_recording.py", "extract.py", "report.py"))
+EXAMPLE = ROOT / "examples" / "weather"
 MAP_PID = 496
 DATA_PID = 512
 OTHER_PID = 300
@@ -48,14 +53,22 @@ RATE, SECONDS = Rate("9M", "2M", "16M"), 20  # of a multiplex, before it is repe
 STAGES = 4
 
 
+def example_modules():
+    """Returns the modules of the example with its page, as pairs of their descriptors and their bytes."""
+    return [(it.module.info, it.data) for it in Recording(EXAMPLE / "stream.ts").read().arrivals]
+
+
 def carousel(noise, pid):
-    """Returns the sections of one round of a carousel, each with its PID: the DII stands before every fortieth block."""
+    """Returns the sections of one round of a carousel, each with its PID: the DII stands before every fortieth block. That of the first PID begins with
+    the modules of the example."""
     modules, blocks = [], []
-    for number in range(4):
+    contents = example_modules() if pid == DATA_PID else []
+    for _ in range(4):
         words = [noise.randbytes(5) for _ in range(2000)]
-        data = b"".join(noise.choices(words, k=noise.randrange(40_000, 120_000)))
+        contents.append((b"", b"".join(noise.choices(words, k=noise.randrange(40_000, 120_000)))))
+    for number, (info, data) in enumerate(contents):
         sent = zlib.compress(data)
-        modules.append(Module(number, 1, len(sent), compression_type(len(data))))
+        modules.append(Module(number, 1, len(sent), info + compression_type(len(data))))
         for at in range(0, len(sent), BLOCK_SIZE):
             blocks.append((pid, ddb_section(1, number, 1, at // BLOCK_SIZE, sent[at : at + BLOCK_SIZE])))
     dii = pid, dii_section(1, 1, BLOCK_SIZE, modules)
@@ -85,8 +98,8 @@ def flow(noise, pid):
     return cycle([data[at * PACKET_SIZE : (at + 1) * PACKET_SIZE] for at in range(count)])
 
 
-def write_multiplexed(path, megabytes, room):
-    """Writes the recording that ffmpeg makes, and returns how many bytes it has."""
+def write_multiplexed(path, megabytes, share, room):
+    """Writes the recording that ffmpeg makes, and returns how many bytes it has; one packet in so many is of data."""
     noise, base = random.Random(1), f"{room}/base.ts"
     write_multiplex(base, SECONDS, RATE, "720x480")
     count = megabytes * 1_000_000 // (PACKET_SIZE + 4)
@@ -94,7 +107,7 @@ def write_multiplexed(path, megabytes, room):
     flows = [flow(noise, stream.pid) for stream in streams]
     data = chain.from_iterable(zip(flows[0], flows[2], flows[0], flows[1]))
     maps = [{101: streams[:2]}, {101: streams[:1], 102: streams[2:]}, {101: streams[:2], 102: streams[2:]}, {101: streams[:1], 102: streams[2:]}]
-    stages = [Stage(components, islice(data, count // 6 // STAGES), 2000) for components in maps]
+    stages = [Stage(components, islice(data, count // share // STAGES), 2000) for components in maps]
     packets = repeated(base, RATE, -(-count * PACKET_SIZE // os.path.getsize(base)) + 1)
     with open(path, "wb") as file:
         for number, one in enumerate(islice(with_data(packets, stages), count)):
@@ -103,35 +116,63 @@ def write_multiplexed(path, megabytes, room):
     return os.path.getsize(path)
 
 
+def told(name, words, out=None):
+    """Runs a command, prints what it cost, and returns whether it did what it is for; what it prints goes to a file."""
+    with open(out or os.devnull, "wb") as printed:
+        status, seconds, processor, memory = measured(words, printed)
+    if status == 0:
+        print(f"{name}: {seconds:.1f} seconds, {processor:.1f} of the processor, memory {memory / 1024:.1f} MiB", flush=True)
+    return status == 0
+
+
+def look(program, stream, room):
+    """Replays a stream and writes its report; returns the lines but for the last, or None where one of them wasn't done."""
+    record, lines = EXAMPLE / "record.txt", f"{room}/lines.txt"
+    is_done = told("  replay", [program, "replay", stream, str(record)], lines)
+    words = [REPORT, lines, f"{room}/report", "--stream", stream, "--record", str(record)]
+    if not is_done or not told("  report", [sys.executable, "-B", *words]):
+        return None
+    with open(lines, "rb") as printed:
+        return printed.read().splitlines()[:-1]
+
+
 def main():
-    parser = argparse.ArgumentParser(usage="measure_recording.py [--megabytes N] [--multiplexed]")
+    parser = argparse.ArgumentParser(usage="measure_recording.py [--megabytes N] [--multiplexed [--share N]] [--data-only] [--program PROGRAM]")
     parser.add_argument("--megabytes", type=int, default=300)
     parser.add_argument("--multiplexed", action="store_true")
+    parser.add_argument("--share", type=int, default=6)
+    parser.add_argument("--data-only", action="store_true")
+    parser.add_argument("--program", type=os.path.abspath)
     asked = parser.parse_args()
     if asked.multiplexed and not is_possible():
         print("measure_recording.py: there is no ffmpeg", file=sys.stderr)
         return 2
     with tempfile.TemporaryDirectory(prefix="measure-") as room:
+        os.chdir(room)  # (where nothing is kept, and what is kept goes with it)
         source, target = f"{room}/in.m2ts", f"{room}/out.ts"
-        size = write_multiplexed(source, asked.megabytes, room) if asked.multiplexed else write_recording(source, asked.megabytes)
-        rows = [("list", [TOOL, "list", source], None), ("unpack", [TOOL, "unpack", source, target], target)]
-        rows += [("unpack --data-only", [TOOL, "unpack", source, f"{room}/data.ts", "--data-only"], f"{room}/data.ts"), ("extract", [EXTRACT, source, f"{room}/modules"], None)]
-        for name, words, made in rows:
-            status, seconds, processor, memory = measured([sys.executable, "-B", *words])
-            if status:
+        size = write_multiplexed(source, asked.megabytes, asked.share, room) if asked.multiplexed else write_recording(source, asked.megabytes)
+        print(f"{size:,} bytes", flush=True)
+        whole = [("list", [TOOL, "list", source], False), ("unpack", [TOOL, "unpack", source, target], True)]
+        rows = [("extract", [EXTRACT, source, f"{room}/modules"], False), ("unpack --data-only", [TOOL, "unpack", source, target, "--data-only"], True)]
+        seen = []
+        for name, words, is_made in rows if asked.data_only else whole + rows:
+            if not told(name, [sys.executable, "-B", *words]):
                 return 1
-            print(f"{name}: {size:,} bytes, {seconds:.1f} seconds, {processor:.1f} of the processor, memory {memory / 1024:.1f} MiB", flush=True)
-            if made:
-                print(f"  {os.path.getsize(made):,} bytes came of it", flush=True)
-                os.remove(made)
+            if is_made:
+                print(f"  {os.path.getsize(target):,} bytes came of it", flush=True)
+                seen.append(look(asked.program, target, room) if asked.program else [])
+                os.remove(target)
+        if None in seen or seen[0] != seen[-1]:
+            print("measure_recording.py: a replay or its report failed, or the lines of both streams differ", file=sys.stderr)
+            return 1
     return 0
 
 
-def measured(command):
-    """Runs a command, and returns its status, its seconds, those of the processor, and the greatest resident memory that Linux tells of it
-    while it runs, in KiB."""
+def measured(command, printed):
+    """Runs a command, whose standard output goes to a file, and returns its status, its seconds, those of the processor, and the greatest resident
+    memory that Linux tells of it while it runs, in KiB."""
     begin, ended, greatest = time.perf_counter(), 0, 0
-    with subprocess.Popen(command, stdin=subprocess.DEVNULL, stdout=subprocess.DEVNULL) as started:
+    with subprocess.Popen(command, stdin=subprocess.DEVNULL, stdout=printed) as started:
         while not ended:
             with open(f"/proc/{started.pid}/status", encoding="ascii") as told:
                 greatest = max([greatest, *(int(line.split()[1]) for line in told if line.startswith("VmHWM:"))])

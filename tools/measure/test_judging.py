@@ -27,6 +27,7 @@ Tests = Iterator[tuple[str, bool]]
 OLD, NEW = b"old", b"new"
 # What is written and kept after each piece of a run: the second stores.
 PIECES = [(b"", OLD), (b"load a\n", OLD), (b"load a\nkept b 3\n", NEW), (b"load a\nkept b 3\nend 3\n", NEW)]
+BAD_LINE = b"bad record line 2\nrecord.txt:2: packets 0\n"
 CODE = """
 // a comment
 #[tactic(auto)]
@@ -101,8 +102,9 @@ def hostile() -> Tests:
     yield "another number of packets", faults(0, b"end 1\n") != []
     yield "a signal", faults(-11, b"") == ["it was stopped by signal 11"]
     yield "a text on standard error", faults(0, b"end 0\n", b"panic") != []
-    yield "a bad line is told by its number", faults(2, b"", b"bad record line 2\n", b"all\npackets 0\n") == []
-    yield "and by no other", faults(2, b"", b"bad record line 1\n", b"all\npackets 0\n") != []
+    yield "a bad line is told by its number", faults(2, b"", BAD_LINE, b"all\npackets 0\n") == []
+    yield "and by no other", faults(2, b"", BAD_LINE, b"all\nall\npackets 0\n") != []
+    yield "and with what stands in it", faults(2, b"", BAD_LINE, b"all\npackets 1 1\n") != []
     yield "an area that is cut short", faults(0, b"end 0\n", kept=b"x") == ["1 bytes are kept"]
     yield "how many packets a record takes", try_hostile.read_record(b"# a\npackets 3\r\nshow\n packets\t4", 9) == (
         7,

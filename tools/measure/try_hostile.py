@@ -42,6 +42,7 @@ from hostile_streams import stream_case
 from hostile_texts import document_case, entity_case, record_case, script_case, style_case
 
 from journals import AREA_SIZE, keep, kept_in
+from line_rows import bad_line_told
 from recordings import cut
 from transport import PACKET_SIZE
 
@@ -76,11 +77,12 @@ ITEMS = {
 WHOLE, PLUS = rb"-?(?:0|[1-9][0-9]*)", rb"(?:0|[1-9][0-9]*)"
 BYTES, WORD = rb"(?:[^\x00-\x1f%\x7f]|%(?:[01][0-9A-F]|25|7F))*", rb"(?:[^\x00-\x20%\x7f]|%(?:[01][0-9A-F]|20|25|7F))+"
 MODULE, PATH, PLACE = rb"[0-9a-f]{2} [0-9a-f]{4}", rb"/[0-9a-f]{2}/[0-9a-f]{4}(?:/%b)?" % WORD, rb"%b %b %b %b" % (WHOLE, WHOLE, PLUS, PLUS)
-ITEM_EVENTS = rb"EventMessageFired|ModuleUpdated|ModuleLocked|DataButtonPressed"
+ITEM_EVENTS = rb"EventMessageFired|ModuleUpdated|ModuleLocked|DataButtonPressed|DataEventChanged"
 FORMS = {
     b"module": rb"%b [0-9a-f]{2} %b" % (MODULE, PLUS),
     b"skip": rb"%b (?:compressed|large)" % MODULE,
     b"gone": MODULE,
+    b"dataevent": rb"40 (?:[0-9]|1[0-5]) (?:[0-9]|1[0-5])",
     b"load": PATH,
     b"refuse": rb"%b (?:Malformed|WrongRoot|TooDeep|TooManyNodes)" % PATH,
     b"badscript": rb"%b [1-9][0-9]*" % PATH,
@@ -173,18 +175,24 @@ def faults_of_lines(lines):
         before = name
 
 
+def is_bad_line_told(stderr, record, number):
+    """Whether standard error has the status of a bad line, and what stands in it after the name of the record, which may be a whole path."""
+    status, shown = bad_line_told(record, number).splitlines(keepends=True)
+    return stderr.startswith(status) and stderr.endswith(shown) and stderr.count(b"\n") == 2
+
+
 def faults_of(case, before, status, stdout, stderr, kept):
     """Yields what is wrong with a run, which began with what was kept before and left this kept."""
     taken, bad_line = read_record(case.record, len(cut(case.stream, PACKET_SIZE, True)[0]))
     is_no_area = before is not None and len(before) not in (0, EARLIER_AREA_SIZE, AREA_SIZE)
-    told = {0: b"", 2: b"bad record line %d\n" % (bad_line or 0), NO_AREA: b"bad area length %d\n" % len(before or b""), NO_MEMORY: b"no memory\n"}
+    told = {0: b"", NO_AREA: b"bad area length %d\n" % len(before or b""), NO_MEMORY: b"no memory\n"}
     if kept != before and (is_no_area or kept is None or len(kept) != AREA_SIZE):
         yield f"{len(kept or b'')} bytes are kept"
     if is_no_area and stdout:
         yield "it writes lines, though what is kept is no area"
     if status not in (NO_MEMORY, NO_AREA if is_no_area else 2 if bad_line else 0):
         yield f"the status is {status}" if status >= 0 else f"it was stopped by signal {-status}"
-    if status in told and stderr != told[status]:
+    if status in told and stderr != told[status] or status == 2 and not is_bad_line_told(stderr, case.record, bad_line or 1):
         yield f"standard error has {stderr[:100]!r}"
     *lines, rest = stdout.split(b"\n")
     if rest:

@@ -6,11 +6,15 @@ to come of each is from docs/FORMATS.md, "The record", and from the README's com
 in gen_rows.py.
 """
 
+import errno
+import os
+import re
 from pathlib import Path
 
 from sent_modules import REPLAY
 from tables import Run
 
+MOST_SHOWN = 128  # bytes of a bad line
 USAGE = Path(__file__).resolve().parents[2] / "examples" / "usage" / "stderr"
 
 # Each of them is an item, a line that asks for nothing, or bad.
@@ -234,12 +238,24 @@ NO_COMMANDS = [
 ]
 
 
+def bad_line_told(record, number):
+    """Returns what standard error has of a bad line: the status, and the front of the line, as README.md, "How it ends", has it."""
+    line = record.split(b"\n")[number - 1]
+    shown = re.sub(rb"[^ -~]|%", lambda it: b"%%%02X" % ord(it[0]), line[:MOST_SHOWN]) + (b" .." if len(line) > MOST_SHOWN else b"")
+    return b"bad record line %d\nrecord.txt:%d: %s\n" % (number, number, shown)
+
+
+def open_fault_told(name):
+    """Returns what standard error has where no file has this name."""
+    return b"open fault\n%s: %s (os error %d)\n" % (name.encode(), os.strerror(errno.ENOENT).encode(), errno.ENOENT)
+
+
 def recorded(record, shows, bad):
     """Returns the run of a record over an empty stream: so many display lists, and then its end."""
     lines = shows * b"show 0\n"
     if bad is None:
         return Run(repr(record[:40]), REPLAY, b"", record, lines + b"end 0\n", b"", 0)
-    return Run(repr(record[:40]), REPLAY, b"", record, lines, b"bad record line %d\n" % bad, 2)
+    return Run(repr(record[:40]), REPLAY, b"", record, lines, bad_line_told(record, bad), 2)
 
 
 def record_lines():
@@ -252,6 +268,6 @@ def record_lines():
 
 def command_words():
     """Returns the runs of words: over no stream where they are a command, and `usage` where not."""
-    taken = [Run(words, words.split("|"), b"", b"", b"", b"open fault\n", 3) for words in COMMANDS]
+    taken = [Run(words, words.split("|"), b"", b"", b"", open_fault_told(words.split("|")[-2]), 3) for words in COMMANDS]
     usage = USAGE.read_bytes()
     return taken + [Run(words, words.split("|"), b"", b"", b"", usage, 1) for words in NO_COMMANDS]

@@ -38,6 +38,7 @@ TOLD = {
     WRITE_FAULT: b"write fault\n",
     KEEP_FAULT: b"keep fault\n",
 }
+MISSING = b"%s: No such file or directory (os error 2)\n"
 # Calls that may be interrupted, and the files on which they are: what starts a program opens and reads others.
 INTERRUPTED: dict[str, tuple[str, ...]] = {
     "openat": ("stream.ts", "record.txt", JOURNAL),
@@ -124,9 +125,9 @@ class Room:
 Case = Callable[[Room], bool]
 
 
-def ends(ended: Ended, status: int, stdout: bytes = b"") -> bool:
-    """Whether a run ended with a status, its line alone on standard error, and this on standard output."""
-    return (ended.status, ended.stdout, ended.stderr) == (status, stdout, TOLD.get(status, b""))
+def ends(ended: Ended, status: int, stdout: bytes = b"", cause: bytes = b"") -> bool:
+    """Whether a run ended with a status, its line and this cause on standard error, and this on standard output."""
+    return (ended.status, ended.stdout, ended.stderr) == (status, stdout, TOLD.get(status, b"") + cause)
 
 
 def done(ended: Ended) -> bool:
@@ -156,7 +157,7 @@ def words() -> Iterator[tuple[str, Case]]:
     yield "a name that is cut within a character", lambda room: is_usage(renamed(room, b"a\xe3\x81"))
     yield "a name with a blank at its end", lambda room: done(renamed(room, "stream.ts "))
     yield "the same without that blank", lambda room: ends(
-        room.run([*WORDS[:3], "stream.ts ", "record.txt"]), OPEN_FAULT
+        room.run([*WORDS[:3], "stream.ts ", "record.txt"]), OPEN_FAULT, cause=MISSING % b"stream.ts "
     )
     yield "a name of other letters", lambda room: done(renamed(room, "放送 1.ts"))
     yield "a name that begins with a minus sign, in its folder", lambda room: done(renamed(room, "./-x"))
@@ -222,20 +223,22 @@ def files_stay(room: Room) -> bool:
     return all((room.folder / it).read_bytes() == (EXAMPLE / it).read_bytes() for it in ("stream.ts", "record.txt"))
 
 
-def from_pipe(room: Room) -> Ended:
-    """Runs it with a pipe in place of the stream, into which a few bytes are written at once."""
-    path, content = room.folder / "stream.ts", (EXAMPLE / "stream.ts").read_bytes()
+def from_pipe(
+    room: Room, words: list[str | bytes] = WORDS, name: str = "stream.ts", content: bytes | None = None
+) -> Ended:
+    """Runs it with a pipe in place of the stream or the record, into which a few bytes are written at once."""
+    path, given = room.folder / name, content or (EXAMPLE / name).read_bytes()
     path.unlink()
     os.mkfifo(path)
 
     def write() -> None:
         with contextlib.suppress(BrokenPipeError), open(path, "wb", buffering=0) as pipe:
-            for at in range(0, len(content), 100):
-                pipe.write(content[at : at + 100])
+            for at in range(0, len(given), 100):
+                pipe.write(given[at : at + 100])
 
     writer = threading.Thread(target=write, daemon=True)
     writer.start()
-    return room.run()
+    return room.run(words)
 
 
 @functools.cache
@@ -274,9 +277,22 @@ def in_place(room: Room, name: str) -> Ended:
 
 def reads() -> Iterator[tuple[str, Case]]:
     yield "a pipe in place of the stream", lambda room: done(from_pipe(room))
-    yield "a folder in place of the stream", lambda room: ends(in_place(room, "stream.ts"), READ_FAULT)
-    yield "a folder in place of the record", lambda room: ends(in_place(room, "record.txt"), READ_FAULT)
-    yield "a bad line of the record", lambda room: ends(with_record(room, b"all\nx\n"), BAD_LINE, PIECES[0])
+    yield "a folder in place of the stream", lambda room: ends(
+        in_place(room, "stream.ts"), READ_FAULT, cause=b"stream.ts: is a directory\n"
+    )
+    yield "a folder in place of the record", lambda room: ends(
+        in_place(room, "record.txt"), READ_FAULT, cause=b"record.txt: is a directory\n"
+    )
+    # (neither is looked at anew, which might wait for ever)
+    yield "a pipe in place of the stream, and no record", lambda room: ends(
+        from_pipe(room, [*WORDS[:4], "missing.txt"]), OPEN_FAULT, cause=MISSING % b"missing.txt"
+    )
+    yield "a pipe in place of a record with a bad line", lambda room: ends(
+        from_pipe(room, name="record.txt", content=b"all\nx\n"), BAD_LINE, PIECES[0]
+    )
+    yield "a bad line of the record", lambda room: ends(
+        with_record(room, b"all\nx\n"), BAD_LINE, PIECES[0], b"record.txt:2: x\n"
+    )
     if shutil.which("cc"):
         yield "reads and writes of a byte each", lambda room: done(byte_by_byte(room))
     if can_interrupt():

@@ -41,7 +41,7 @@ from typing import NamedTuple
 import archive_page
 import extract
 import prepare_recording
-from diagnosis import explained, findings_of, survey, targets_of
+from diagnosis import explained, findings_of, said_by_system, survey, targets_of
 from draw_display import drawings
 from drawings import BadOutput
 from report import items_of, page, report_of_lines
@@ -313,7 +313,7 @@ def main(words):
     try:
         return run(asked, program)
     except OSError as fault:
-        print(f"{NAME}: {fault}", file=sys.stderr)
+        print(f"{NAME}: {said_by_system(fault)}", file=sys.stderr)
         return 1
     except KeyboardInterrupt:
         print(f"{NAME}: interrupted; the next run goes on from here", file=sys.stderr)

@@ -175,8 +175,17 @@ def refusal_of_stream(path):
         return finding_of_kind(beginning(path)).text() if PacketReader(file).size is None else None
 
 
+def said_by_system(fault):
+    """Returns what the system says of a file that can't be used: its name and why, where both are known."""
+    return f"{fault.filename}: {fault.strerror}" if isinstance(getattr(fault, "filename", None), (str, os.PathLike)) and fault.strerror else str(fault)
+
+
 def explained(told, stream, record):
-    """Returns what the program says of its end, with what it says it of: the line of the record, or the file."""
+    """Returns what the program says of its end, with what it says it of: the line of the record, or the file. Where the program tells it, this is its
+    second line."""
+    status, _, cause = told.partition("\n")
+    if cause:
+        return f"{status}: {cause}"
     bad = re.search("bad record line ([0-9]{1,10})", told)
     if bad:
         lines = record.split(b"\n")

@@ -17,7 +17,7 @@ import argparse
 import sys
 from pathlib import Path
 
-from diagnosis import fault_of_output, refusal_of_stream
+from diagnosis import fault_of_output, refusal_of_stream, said_by_system
 from drawings import BadOutput, display_lists, drawing, shapes_of
 from shown_pages import Follower, Recording, add_service
 
@@ -54,7 +54,7 @@ def main(words):
         print(f"draw_display.py: {asked.output} is no output of a run: it has a display list {bad}", file=sys.stderr)
         return 1
     except OSError as fault:
-        print(f"draw_display.py: {fault}", file=sys.stderr)
+        print(f"draw_display.py: {said_by_system(fault)}", file=sys.stderr)
         return 1
     for fault in faults:
         print(f"draw_display.py: {fault}", file=sys.stderr)

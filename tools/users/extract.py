@@ -28,7 +28,7 @@ from pathlib import Path
 from typing import NamedTuple
 
 from colours import FIXED
-from diagnosis import diagnose
+from diagnosis import diagnose, said_by_system
 from drawings import data_address
 from entities import BadEntity, Part, resources_of
 from pictures import JPEG, MNG, PNG, BadPicture, picture_of
@@ -355,7 +355,7 @@ def main(words):
         print(f"{NAME}: {asked.source}: {fault}", file=sys.stderr)
         return 1
     except OSError as fault:
-        print(f"{NAME}: {fault}", file=sys.stderr)
+        print(f"{NAME}: {said_by_system(fault)}", file=sys.stderr)
         return 1
     except KeyboardInterrupt:
         print(f"{NAME}: interrupted", file=sys.stderr)

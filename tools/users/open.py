@@ -22,7 +22,7 @@ from pathlib import Path
 import prepare_recording
 import remote
 import report
-from diagnosis import TABLE, Target, explained, findings_of, survey, targets_of
+from diagnosis import TABLE, Target, explained, findings_of, said_by_system, survey, targets_of
 
 NAME = "open.py"
 RECORD = b"all\nshow\n"
@@ -141,7 +141,7 @@ def main(words):
     except subprocess.TimeoutExpired:
         say(f"the replay took more than {LIMIT} seconds, and was ended")
     except OSError as fault:
-        say(str(fault))
+        say(said_by_system(fault))
     except KeyboardInterrupt:
         say("interrupted")
     return 1

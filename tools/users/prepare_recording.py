@@ -25,7 +25,7 @@ import stat
 import sys
 
 from carousels import Listing, Output, UnpackedComponent
-from diagnosis import TABLE, Survey, findings_of, survey
+from diagnosis import TABLE, Survey, findings_of, said_by_system, survey
 from recordings import PacketReader, Reception, pid_of
 from transport import PACKET_SIZE, TYPE_DESCRIPTOR, ZLIB, compression_of, descriptors
 
@@ -241,7 +241,7 @@ def main(words):
         print(f"{NAME}: {asked.source}: {fault}", file=sys.stderr)
         return 1
     except OSError as fault:
-        print(f"{NAME}: {fault}", file=sys.stderr)
+        print(f"{NAME}: {said_by_system(fault)}", file=sys.stderr)
         return 1
     except KeyboardInterrupt:
         print(f"{NAME}: interrupted", file=sys.stderr)

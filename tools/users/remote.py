@@ -39,7 +39,7 @@ from http.server import BaseHTTPRequestHandler, ThreadingHTTPServer
 from pathlib import Path
 from typing import NamedTuple
 
-from diagnosis import diagnose, explained, fault_of_record, refusal_of_stream
+from diagnosis import diagnose, explained, fault_of_record, refusal_of_stream, said_by_system
 from drawings import FONT_SCRIPT, NO_FONT, BadOutput, DisplayList, Look, display_lists, drawing, shapes_of
 from report import KEYS, items_of, kind_of, page, plain_text, policy, report_of_lines, space_of
 from shown_pages import Follower, Recording, add_service, number
@@ -539,7 +539,7 @@ def main(words):
         recording = Recording(os.path.abspath(asked.stream), asked.service, asked.data_pid)
         server = Server(Session([*command, os.path.abspath(asked.stream)], record, recording), asked.port)
     except (OSError, OverflowError) as fault:
-        print(f"remote.py: {fault}", file=sys.stderr)
+        print(f"remote.py: {said_by_system(fault)}", file=sys.stderr)
         return 1
     print(f"Open {server.address()} in a browser of this machine. Ctrl-C ends it.", flush=True)
     if asked.open:

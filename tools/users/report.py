@@ -29,7 +29,7 @@ from html import escape
 from pathlib import Path
 from typing import NamedTuple
 
-from diagnosis import diagnose, fault_of_output, fault_of_record, refusal_of_stream
+from diagnosis import diagnose, fault_of_output, fault_of_record, refusal_of_stream, said_by_system
 from drawings import FONT_SCRIPT, NO_FONT, BadOutput, DisplayList, data_address, display_lists, drawing, numbers, rectangle, shapes_of
 from pictures import BadPicture
 from shown_pages import Follower, Recording, add_service
@@ -45,7 +45,7 @@ WARNINGS = {
     b"skip": "a module was skipped",
 }
 # The kinds of lines, as the filter offers them.
-KINDS = ["module", "gone", "skip", "load", "refuse", "badscript", "stop", "lost", "launch", "sound", "kept", "show", "box", "text", "row", "picture", "focus", "end"]
+KINDS = ["module", "gone", "skip", "dataevent", "load", "refuse", "badscript", "stop", "lost", "launch", "sound", "kept", "show", "box", "text", "row", "picture", "focus", "end"]
 KEYS = {1: "up", 2: "down", 3: "left", 4: "right", 18: "enter", 19: "back", 20: "data", 21: "blue", 22: "red", 23: "green", 24: "yellow"}
 KEYS |= {5 + digit: str(digit) for digit in range(10)}
 
@@ -480,7 +480,7 @@ def main(words):
         print(f"report.py: {asked.output} is no output of a run: it has a display list {fault}", file=sys.stderr)
         return 1
     except OSError as fault:
-        print(f"report.py: {fault}", file=sys.stderr)
+        print(f"report.py: {said_by_system(fault)}", file=sys.stderr)
         return 1
     print(made)
     return 0

@@ -332,6 +332,9 @@ class Tools(InFolder):
     def test_what_the_program_says_is_explained(self):
         record = b"all\nkei 5\nshow"
         self.assertEqual(diagnosis.explained("bad record line 2", str(self.source), record), 'bad record line 2, which is "kei 5"')
+        self.assertEqual(diagnosis.explained("bad record line 2\nrecord.txt:2: kei 5", str(self.source), record), "bad record line 2: record.txt:2: kei 5")
+        self.assertEqual(diagnosis.said_by_system(FileNotFoundError(2, "No such file", "a.ts")), "a.ts: No such file")
+        self.assertEqual(diagnosis.said_by_system(OSError("nothing more")), "nothing more")
         self.assertEqual(diagnosis.explained("bad record line 9", str(self.source), record), 'bad record line 9, which is ""')
         self.assertEqual(diagnosis.explained("open fault", str(self.source), record), f"open fault: {self.source}: No such file or directory")
         self.assertEqual(diagnosis.explained("read fault", str(self.folder), record), f"read fault: {self.folder}: Is a directory")

@@ -522,7 +522,7 @@ gives_later (Err e) moment change old stage first last given modules programs ha
 
 -- what is printed stands behind what was there
 
-front_of : (xs ys : List ℕ) → take (length xs) (xs ++ ys) ≡ xs
+pub front_of : (xs ys : List ℕ) → take (length xs) (xs ++ ys) ≡ xs
 front_of [] ys = refl
 front_of (x ∷ xs) ys = ap (λ (zs : List ℕ). x ∷ zs) (front_of xs ys)
 

@@ -34,7 +34,7 @@ use Rattle.browser_objects.specs.Calls.{CallOutcome, call_of, number}
 use Rattle.browser_objects.specs.declared.effects.Effect as of_browser
 use Rattle.browser_objects.specs.declared.effects.Effect.TheVariants as effects
 use Rattle.dom_objects.specs.Writes.{change_of}
-use Rattle.document_stages.specs.Acting.{Acting, CallAnswer, with_action, acting_with_timers, with_first_events, button_post, button_posts, change_posts, with_due_events, each_item, element_call, with_item_fired, focus_on, with_focus_asked, focused_node, gives, has_focus, has_room, is_subscription, is_unload, key_posts, launch, without_focus_of, lock_post, lock_posts, message_post, message_posts, module_post, with_focus_moved, no_focus, with_node_written, with_event, with_event_for, with_event_where, with_press, member_value, gives_nan, with_text_written, with_timer_fired, with_timer_event, with_timer_settled, with_timers_fired, update_posts, with_browser, with_focus, with_member_set}
+use Rattle.document_stages.specs.Acting.{Acting, CallAnswer, with_action, acting_with_timers, with_first_events, button_post, button_posts, change_posts, with_due_events, element_call, with_item_fired, focus_on, with_focus_asked, focused_node, gives, has_focus, has_room, is_subscription, is_ending, key_posts, launch, without_focus_of, lock_post, lock_posts, message_post, message_posts, module_post, with_focus_moved, no_focus, with_node_written, with_event, with_event_for, with_event_where, with_press, member_value, gives_nan, with_text_written, with_timer_fired, with_timer_event, with_timer_settled, with_timers_fired, update_posts, with_browser, with_focus, with_member_set}
 use Rattle.document_stages.specs.Hosting.{HostParts, reply_of_outcome, reply_of_call, reply_of_effect, answer_of_lock}
 use Rattle.display_list.specs.Bodies.{body_of}
 use Rattle.acting_documents.specs.Runs.{End, end_of_run}
@@ -92,7 +92,7 @@ element_call-stays a node name heap =
     (chosen (is_same name (codes "blur")) _ _ (stays_of a) (left_by-stays node a) refl)
 
 launch-stays : (path : Path) (a : Acting) (heap : List ObjectState) → stays_of (launch path a heap).acting ≡ stays_of a
-launch-stays path a heap = chosen (is_unload a.event.event) _ _ (stays_of a) refl refl
+launch-stays path a heap = chosen (is_ending a.event.event) _ _ (stays_of a) refl refl
 
 -- ---- by writes
 

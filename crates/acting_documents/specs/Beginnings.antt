@@ -2,11 +2,12 @@
 -- (after BML, ARIB STD-B24 volume 2, in this project's own profile).
 use Rattle.std.specs.Prelude.{ℕ, List, [], ◌∷◌, length, codes}
 use Rattle.document_load.specs.Scripts.{unnamed_places}
+use Rattle.event_items.specs.Subscriptions.{data_event_items}
 use Rattle.event_queue.specs.declared.events.Event.TheVariants as events
 use Rattle.document_stages.specs.Acting.{with_first_events, first_focus, with_timers}
 use Rattle.acting_documents.specs.Documents.{Document}
 use Rattle.acting_documents.specs.Handling.{event_effect}
-use Rattle.acting_documents.specs.Runs.{Effect, Scene, and_then, effect_of_change, no_event, no_effect, run_program}
+use Rattle.acting_documents.specs.Runs.{Effect, Scene, and_then, effect_of_change, followed_by, no_event, no_effect, run_program}
 
 -- ---- its scripts
 
@@ -43,3 +44,16 @@ without_waiting s =
 -- What waits is dropped, and then its body's handler of `unload` runs.
 unfoldable pub unload_effect : Scene → Effect
 unload_effect s = event_effect events.Unload (without_waiting s)
+
+-- the handlers of these items run for a data event, one behind the other
+abbrev pub items_effect : List ℕ → Scene → Effect
+items_effect [] s = no_effect s
+items_effect (item ∷ items) s =
+    followed_by (items_effect items) (event_effect (events.DataEvent item) s)
+
+-- A data event ends it: what waits is dropped, the items that are subscribed before the first of their handlers runs are
+-- handled, and then its body's handler of `unload` runs. What these post and start ends with the document.
+unfoldable pub data_event_effect : Scene → Effect
+data_event_effect s =
+    followed_by (event_effect events.Unload)
+    (items_effect (data_event_items s.document.items) (without_waiting s))

@@ -35,6 +35,7 @@ kind_of (events.Fired item component message) = Some kinds.Occur
 kind_of (events.Updated item status) = Some kinds.Occur
 kind_of (events.Locked item status) = Some kinds.Occur
 kind_of (events.Button item) = Some kinds.Occur
+kind_of (events.DataEvent item) = Some kinds.Occur
 
 -- the handler that a node has for an event runs, where it has one, with the event as the current one
 abbrev pub run_handler : Event → ℕ → Scene → Effect
@@ -113,6 +114,7 @@ event_effect (events.Fired item component message) s =
 event_effect (events.Updated item status) s = run_handler (events.Updated item status) item s
 event_effect (events.Locked item status) s = run_handler (events.Locked item status) item s
 event_effect (events.Button item) s = run_handler (events.Button item) item s
+event_effect (events.DataEvent item) s = run_handler (events.DataEvent item) item s
 
 -- ---- messages and modules
 

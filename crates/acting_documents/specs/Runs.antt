@@ -62,6 +62,10 @@ unless_launched (Some path) more e = e
 abbrev pub and_then : (Scene → Effect) → Effect → Effect
 and_then more e = unless_launched e.launched more e
 
+-- One thing, and then another, in a document that ends: it launches none.
+abbrev pub followed_by : (Scene → Effect) → Effect → Effect
+followed_by more e = effect_behind e.text (more e.scene)
+
 -- what the handler of an event acts on, behind which nothing is printed yet
 abbrev pub acting_in : CurrentEvent → Scene → Acting
 acting_in event s =

@@ -13,6 +13,7 @@ ghost use Rattle.acting_documents.specs.devices.Doings.{Changes, Does, DoesApart
 ghost use Rattle.acting_documents.specs.devices.Kept.{IsDocument, kept_first, first_stage};
 ghost use Rattle.acting_documents.specs.Runs.{no_effect, run_function as spec_run_function, run_program as spec_run_program};
 
+mod endings;
 mod events;
 mod posts;
 

@@ -74,9 +74,11 @@ fn kind_of(event: &Event) -> Option<HandlerKind>
         Event::Click(_) => Some(HandlerKind::Click),
         Event::KeyDown(_) => Some(HandlerKind::KeyDown),
         Event::KeyUp(_) => Some(HandlerKind::KeyUp),
-        Event::Fired { .. } | Event::Updated { .. } | Event::Locked { .. } | Event::Button(_) => {
-            Some(HandlerKind::Occur)
-        }
+        Event::Fired { .. }
+        | Event::Updated { .. }
+        | Event::Locked { .. }
+        | Event::Button(_)
+        | Event::DataEvent(_) => Some(HandlerKind::Occur),
         Event::Default(_) | Event::Timer(_) => None,
     }
 }

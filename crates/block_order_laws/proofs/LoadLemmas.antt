@@ -17,7 +17,7 @@ use Rattle.page.specs.Loading.{are_settled, given_draft, is_settled, load, loada
 use Rattle.page.specs.State.{State, Step, Wanted}
 use Rattle.page.specs.State.Wanted.{StartDocument, DocumentAt, NoDocument}
 use Rattle.block_order_laws.specs.Loads.{IsNextLoad, Load, given_to, needs_in, needs_of_bytes, read_in}
-use Rattle.block_order_laws.proofs.PageLemmas.{dispatch_is}
+use Rattle.block_order_laws.proofs.PageLemmas.{dispatch_is, none_waits}
 
 -- ---- the load that modules allow
 
@@ -89,18 +89,18 @@ next_is s = by (wanted_path s.wanted s.modules) where
   by None = refl
   by (Some path) = load_at_is s path
 
--- a dispatch of a page without a document is the load that its modules allow
-pub dispatch_loads : (s : State) → s.document ≡ None → dispatch s ≡ option_map (made s) (load_now s.wanted s.modules)
-dispatch_loads s none = dispatch_is s none ∙ next_is s
+-- where no data event waits, a dispatch of a page without a document is the load that its modules allow
+pub dispatch_loads : (s : State) → s.document ≡ None → s.data_event ≡ false → dispatch s ≡ option_map (made s) (load_now s.wanted s.modules)
+dispatch_loads s none waits = dispatch_is s none waits ∙ next_is s
 
 pub no_load : (s : State) → s.document ≡ None → dispatch s ≡ None → load_now s.wanted s.modules ≡ None
-no_load s none idle = by (load_now s.wanted s.modules) (sym (dispatch_loads s none) ∙ idle) where
+no_load s none idle = by (load_now s.wanted s.modules) (sym (dispatch_loads s none (none_waits s idle)) ∙ idle) where
   by : (o : Option Load) → option_map (made s) o ≡ None → o ≡ None
   by None e = refl
   by (Some l) e = absurd cc
 
-pub no_dispatch : (s : State) → s.document ≡ None → load_now s.wanted s.modules ≡ None → dispatch s ≡ None
-no_dispatch s none now = dispatch_loads s none ∙ ap (option_map (made s)) now
+pub no_dispatch : (s : State) → s.document ≡ None → s.data_event ≡ false → load_now s.wanted s.modules ≡ None → dispatch s ≡ None
+no_dispatch s none waits now = dispatch_loads s none waits ∙ ap (option_map (made s)) now
 
 gifts_settled : (modules : Modules) (needs : List Path) → are_settled modules needs ≡ true → All (λ gift. is_settled gift ≡ true) (map (look_up modules) needs)
 gifts_settled modules [] h = All-nil (λ (gift : Resource). is_settled gift ≡ true)
@@ -137,15 +137,15 @@ allowed wanted modules l now = by (wanted_path wanted modules) refl now where
   by None w e = absurd cc
   by (Some path) w e = by_found path w (look_up modules path) refl e
 
-pub next_load_is : (s : State) (l : Load) → s.document ≡ None → load_now s.wanted s.modules ≡ Some l → IsNextLoad s l
-next_load_is s l none now =
+pub next_load_is : (s : State) (l : Load) → s.document ≡ None → s.data_event ≡ false → load_now s.wanted s.modules ≡ Some l → IsNextLoad s l
+next_load_is s l none waits now =
     let a = allowed s.wanted s.modules l now in
     record {
       wanted = a.is_wanted;
       found = a.is_found;
       gifts = a.gifts_are;
       settled = a.gifts_settled;
-      dispatch = dispatch_loads s none ∙ ap (option_map (made s)) now;
+      dispatch = dispatch_loads s none waits ∙ ap (option_map (made s)) now;
     }
 
 -- ---- modules that offer more

@@ -1,5 +1,5 @@
 -- Sections one after the other, up to the first whose turn makes a dispatch, and two lists of them.
-use Rattle.std.proofs.Common.{◌≡◌, ℕ, Bool, List, [], ◌∷◌, ◌++◌, ◌⊎◌, inl, inr, refl, sym, ap, ap₂, ◌∙◌, subst, if◌then◌else◌}
+use Rattle.std.proofs.Common.{◌≡◌, ℕ, Bool, List, [], ◌∷◌, ◌++◌, ◌⊎◌, inl, inr, refl, sym, ap, ap₂, ◌∙◌, subst, if◌then◌else◌, false}
 use Rattle.std.specs.Prelude.{◌≢◌, All, Option, Some, None}
 use Rattle.std.proofs.lemmas.List.Elements.{All-cons, All-nil, Contains-append_left, Contains-append_right}
 use Rattle.dsmcc_messages.specs.declared.dii.Dii.{Dii}
@@ -20,6 +20,7 @@ use Rattle.block_order_laws.specs.FirstLoads.{Agree, AreQuiet, AwaitsDocument, C
 use Rattle.block_order_laws.specs.Loads.{IsNextLoad, Load}
 use Rattle.block_order_laws.proofs.LoadLemmas.{Settles, load_now, next_load_is, no_dispatch, no_load, now_stays, same_load}
 use Rattle.block_order_laws.proofs.SectionLemmas.{IsQuietStep, TableLaws, is_wanted, module_lines, steps, still_awaits, turns}
+use Rattle.block_order_laws.proofs.PageLemmas.{none_waits}
 
 -- the laws that are used: those of services, those of one more section, and those of two lists
 pub record SettledLaws : Type 0 where
@@ -107,17 +108,17 @@ module _ (tables : TableLaws) (laws : SettledLaws) (dii : Dii) (pid tag : ℕ) w
     one : OnlyRepeat dii.transaction (section ∷ [])
     one = first_repeats dii.transaction section sections repeat
 
-    t : IsQuietStep s tag section (step_of_section pid section s)
-    t = steps tables s pid tag messages section awaits
-
     told : All IsDelivery (changes_by tag section s.page.modules)
     told = laws.told s.page.modules tag messages dii section awaits.messages_are is one
 
+    t : IsQuietStep s tag section (step_of_section pid section s)
+    t = steps tables s pid tag messages section awaits told
+
     wanted_state : state_behind_turns pid (section ∷ sections) s ≡ state_behind_turns pid sections now
-    wanted_state = ap (λ (b : Bool). if b then state_behind_turns pid sections now else s) (is_wanted tables s pid tag messages section awaits)
+    wanted_state = ap (λ (b : Bool). if b then state_behind_turns pid sections now else s) (is_wanted tables s pid tag messages section awaits told)
 
     wanted_pieces : (others : List (List ℕ)) → pieces_of_turns pid (section ∷ others) s ≡ piece_of (turn pid section s) ∷ pieces_of_turns pid others now
-    wanted_pieces others = ap (λ (b : Bool). if b then piece_of (turn pid section s) ∷ pieces_of_turns pid others now else []) (is_wanted tables s pid tag messages section awaits)
+    wanted_pieces others = ap (λ (b : Bool). if b then piece_of (turn pid section s) ∷ pieces_of_turns pid others now else []) (is_wanted tables s pid tag messages section awaits told)
 
     amid_load : load_now amid.wanted amid.modules ≡ load_now s.page.wanted modules
     amid_load = ap (λ (p : page.State). load_now p.wanted p.modules) t.page_is
@@ -125,12 +126,15 @@ module _ (tables : TableLaws) (laws : SettledLaws) (dii : Dii) (pid tag : ℕ) w
     amid_none : amid.document ≡ None
     amid_none = ap (λ (p : page.State). p.document) t.page_is ∙ awaits.none
 
+    amid_waits : amid.data_event ≡ false
+    amid_waits = ap (λ (p : page.State). p.data_event) t.page_is ∙ none_waits s.page awaits.idle
+
     -- its turn makes a dispatch
     loads_here : (step : page.Step) → dispatches.dispatch amid ≡ Some step → OneLoads s pid tag (section ∷ sections)
     loads_here step e = by (load_now amid.wanted amid.modules) refl where
       by : (o : Option Load) → load_now amid.wanted amid.modules ≡ o → OneLoads s pid tag (section ∷ sections)
       by None none =
-          let idle : dispatches.dispatch amid ≡ None = no_dispatch amid amid_none none in
+          let idle : dispatches.dispatch amid ≡ None = no_dispatch amid amid_none amid_waits none in
           absurd (let no : None ≡ Some step = sym idle ∙ e in cc)
       by (Some l) some = record {
         load = l;
@@ -141,7 +145,7 @@ module _ (tables : TableLaws) (laws : SettledLaws) (dii : Dii) (pid tag : ℕ) w
           place = refl;
           quiet = record { none = tt; lines = All-nil (HasModuleLines tag) };
           lines = subst (HasModuleLines tag) (sym t.text_is) (module_lines tag (changes_by tag section s.page.modules) told);
-          loads = next_load_is amid l amid_none some;
+          loads = next_load_is amid l amid_none amid_waits some;
         };
         now = loads_stay laws dii tag s.page.wanted l sections modules (messages ++ messages_of (section ∷ []))
             (laws.messages s.page.modules tag messages section awaits.messages_are) (laws.force messages dii (section ∷ []) is one)
@@ -150,10 +154,10 @@ module _ (tables : TableLaws) (laws : SettledLaws) (dii : Dii) (pid tag : ℕ) w
 
     module _ (idle : dispatches.dispatch amid ≡ None) where
       u : IsQuietStep s tag section (turn pid section s)
-      u = turns tables s pid tag messages section awaits idle
+      u = turns tables s pid tag messages section awaits told idle
 
       pub awaits_now : AwaitsDocument now pid tag (messages ++ messages_of (section ∷ []))
-      awaits_now = still_awaits tables s pid tag messages section awaits (laws.messages s.page.modules tag messages section awaits.messages_are) idle
+      awaits_now = still_awaits tables s pid tag messages section awaits told (laws.messages s.page.modules tag messages section awaits.messages_are) idle
 
       same_load_now : load_now now.page.wanted (modules_after now.page.modules tag sections) ≡ load_now s.page.wanted (modules_after modules tag sections)
       same_load_now = ap (λ (p : page.State). load_now p.wanted (modules_after p.modules tag sections)) u.page_is
@@ -170,7 +174,7 @@ module _ (tables : TableLaws) (laws : SettledLaws) (dii : Dii) (pid tag : ℕ) w
       loads_later o =
           let c = o.comes in
           let before_is : state_behind_turns pid (section ∷ c.before) s ≡ state_behind_turns pid c.before now
-          = ap (λ (b : Bool). if b then state_behind_turns pid c.before now else s) (is_wanted tables s pid tag messages section awaits) in
+          = ap (λ (b : Bool). if b then state_behind_turns pid c.before now else s) (is_wanted tables s pid tag messages section awaits told) in
           record {
             load = o.load;
             comes = record {

@@ -51,12 +51,12 @@ pub record IsQuietStep (s : State) (tag : ℕ) (section : List ℕ) (t : Step) :
   pub services_are : services t.state ≡ services s
   pub text_is : t.text ≡ flat_map (line_of_change tag) (changes_by tag section s.page.modules)
 
-component_step : (tag : ℕ) (section : List ℕ) (now : State) → now.page.document ≡ None
+component_step : (tag : ℕ) (section : List ℕ) (now : State) → now.page.document ≡ None → All IsDelivery (changes_by tag section now.page.modules)
     → step_of_component tag section now
     ≡ record { state = with_modules (with_section tag section now.page.modules) now; text = flat_map (line_of_change tag) (changes_by tag section now.page.modules) }
-component_step tag section now none =
+component_step tag section now none told =
     ap (with_messages tag (section_messages section))
-    (ap (of_page after) (quiet.changes_are after.page none tag (changes_by tag section now.page.modules)))
+    (ap (of_page after) (quiet.changes_are after.page none tag (changes_by tag section now.page.modules) told))
     ∙ ap (λ (come : page.Step). let t : Step = record { state = (of_page after come).state; text = lines ++ come.text } in t) (quiet.messages_are after.page none tag (section_messages section))
     ∙ ap (λ text. let t : Step = record { state = after; text = text } in t) (append-nil lines)
   where
@@ -72,14 +72,15 @@ same_services laws s pid section untabled =
     (laws.service s.selection s.handled (record { pid = pid; section = section }) untabled)
     (laws.map s.selection s.handled (record { pid = pid; section = section }) untabled)
 
-module _ (laws : TableLaws) (s : State) (pid tag : ℕ) (messages : List Message) (section : List ℕ) (awaits : AwaitsDocument s pid tag messages) where
+module _ (laws : TableLaws) (s : State) (pid tag : ℕ) (messages : List Message) (section : List ℕ) (awaits : AwaitsDocument s pid tag messages)
+    (told : All IsDelivery (changes_by tag section s.page.modules)) where
   step_is : step_of_section pid section s ≡ step_of_component tag section (with_handled pid section s)
   step_is =
       ap (λ (t : Bool). if t then step_of_table (with_handled pid section s) else step_of_tag (tag_in (services s).map pid) section (with_handled pid section s)) awaits.untabled
       ∙ ap (λ (o : Option ℕ). step_of_tag o section (with_handled pid section s)) awaits.component
 
   pub steps : IsQuietStep s tag section (step_of_section pid section s)
-  steps = subst (IsQuietStep s tag section) (sym (step_is ∙ component_step tag section (with_handled pid section s) awaits.none)) (record {
+  steps = subst (IsQuietStep s tag section) (sym (step_is ∙ component_step tag section (with_handled pid section s) awaits.none told)) (record {
     page_is = refl;
     services_are = same_services laws s pid section awaits.untabled;
     text_is = refl;

@@ -6,8 +6,10 @@
 #![tactic(auto)]
 
 mod command_line;
+mod told_files;
 
 use crate::command_line::{Asked, HELP, SYNOPSIS, VERSION, read_words, request_of};
+use crate::told_files::{tell_fault, tell_line};
 use bml_ports::Text;
 use bml_ports_std::{AreaFile, DiskFile, FileWorld, StandardOutput};
 use nv_journal::Journal;
@@ -16,10 +18,17 @@ use std::process::ExitCode;
 
 fn main(rt: HostRuntime) -> ExitCode {
     let status = match read_words(&rt) {
-        Ok(words) => obey(&rt, words.as_slice()),
-        Err(status) => status,
+        Ok(words) => {
+            let status = obey(&rt, words.as_slice());
+            report(&rt, status);
+            explain(&rt, words.as_slice(), status);
+            status
+        }
+        Err(status) => {
+            report(&rt, status);
+            status
+        }
     };
-    report(&rt, status);
     ExitCode::from(status.number())
 }
 
@@ -56,5 +65,18 @@ fn report(rt: &HostRuntime, status: Status) {
     let _ = eprintln!(rt; "{}", status.line().as_str());
     if status == Status::Usage {
         let _ = eprint!(rt; "{SYNOPSIS}");
+    }
+}
+
+// Says after the status what it is about: the file that can't be opened or read, or the bad line of the record. The
+// files are looked at anew for that, and nothing is said where they are found well.
+fn explain(rt: &HostRuntime, words: &[Text], status: Status) {
+    let [.., stream, record] = words else {
+        return;
+    };
+    match status {
+        Status::OpenFault | Status::ReadFault => tell_fault(rt, stream, record),
+        Status::BadRecord { line } => tell_line(rt, record, line),
+        _ => {}
     }
 }

@@ -90,32 +90,35 @@ standing_kept_is h n k e = by (standing_of (in_force h) n) refl e where
 pub stands_back : (c new : CarouselState) (block : DataBlock) → TakesBack c new block → (h : List Message) (whole : ℕ × List ℕ) → whole_by h block (put_after h block) ≡ Some whole → StandsFor c (h ++ Data block ∷ []) → StandsFor new h
 stands_back c new block takes h whole made s = record {
   transaction = takes.transaction ∙ s.transaction ∙ ap (option_map (λ d. d.transaction)) (in_force-append h (Data block) ∙ later_data (in_force h) block);
+  download = takes.download ∙ s.download ∙ ap (option_map (λ d. d.download)) (in_force-append h (Data block) ∙ later_data (in_force h) block);
   modules = λ n. takes.modules n ∙ ap (option_map (without_block block)) (s.modules n ∙ kept_module-data h block n)
       ∙ undone (kept_module h n) block n (λ k e. standing_kept_is h n k e)
       (λ m k e. whole_wanted (kept_module h block.«module») block whole (whole-known h block ∙ made) k (ap (kept_module h) m ∙ e));
 }
 
 module _ {S : Type 0} where
-  pub kept_back : (transaction : Option ℕ) (modules : HashMap ℕ Module S) (old new : Buffers) (v : CarouselState) → viewed transaction modules old ≡ v → AreModules modules old → (block : DataBlock) (answer : Put) (number : ℕ) (later : CarouselState)
+  pub kept_back : (transaction download : Option ℕ) (modules : HashMap ℕ Module S) (old new : Buffers) (v : CarouselState) → viewed transaction download modules old ≡ v → AreModules modules old → (block : DataBlock) (answer : Put) (number : ℕ) (later : CarouselState)
       → ((n : ℕ) → kept_at modules new n ≡ option_map (with_block block) (kept_at modules old n)) → answer ≡ answer_to (kept_at modules old block.«module») block → answer ≡ puts.Completed number
-      → TakesBack (viewed transaction modules new) later block → KeepsSame v later
-  kept_back transaction modules old new v e are block answer number later kept a completed back = subst (λ (x : CarouselState). KeepsSame x later) e (record {
+      → TakesBack (viewed transaction download modules new) later block → KeepsSame v later
+  kept_back transaction download modules old new v e are block answer number later kept a completed back = subst (λ (x : CarouselState). KeepsSame x later) e (record {
     transaction = back.transaction;
-    modules = λ n. back.modules n ∙ ap (option_map (without_block block)) (kept_in-view transaction modules new n ∙ kept n)
+    download = back.download;
+    modules = λ n. back.modules n ∙ ap (option_map (without_block block)) (kept_in-view transaction download modules new n ∙ kept n)
         ∙ undone (kept_at modules old n) block n (λ k p. its_number n (value_at nat_eq modules n) refl k p)
         (λ m k p. wanted_by (kept_at modules old block.«module») block number (sym completed ∙ a) k (ap (kept_at modules old) m ∙ p))
-        ∙ sym (kept_in-view transaction modules old n);
+        ∙ sym (kept_in-view transaction download modules old n);
   })
     where
       its_number : (n : ℕ) (o : Option Module) → value_at nat_eq modules n ≡ o → (k : Kept) → option_map (module_kept old) o ≡ Some k → k.standing.entry.id ≡ n
       its_number n None there k p = cc
       its_number n (Some m) there k p = let q : module_kept old m ≡ k = cc in ap (λ (x : Kept). x.standing.entry.id) (sym q) ∙ (are n m there).number_is
 
-  pub takes_back_by : (transaction : Option ℕ) (modules : HashMap ℕ Module S) (old new : Buffers) (v : CarouselState) → viewed transaction modules old ≡ v → (block : DataBlock)
-      → ((n : ℕ) → kept_at modules new n ≡ option_map (without_block block) (kept_at modules old n)) → TakesBack v (viewed transaction modules new) block
-  takes_back_by transaction modules old new v e block kept = subst (λ (x : CarouselState). TakesBack x (viewed transaction modules new) block) e (record {
+  pub takes_back_by : (transaction download : Option ℕ) (modules : HashMap ℕ Module S) (old new : Buffers) (v : CarouselState) → viewed transaction download modules old ≡ v → (block : DataBlock)
+      → ((n : ℕ) → kept_at modules new n ≡ option_map (without_block block) (kept_at modules old n)) → TakesBack v (viewed transaction download modules new) block
+  takes_back_by transaction download modules old new v e block kept = subst (λ (x : CarouselState). TakesBack x (viewed transaction download modules new) block) e (record {
     transaction = refl;
-    modules = λ n. kept_in-view transaction modules new n ∙ kept n ∙ ap (option_map (without_block block)) (sym (kept_in-view transaction modules old n));
+    download = refl;
+    modules = λ n. kept_in-view transaction download modules new n ∙ kept n ∙ ap (option_map (without_block block)) (sym (kept_in-view transaction download modules old n));
   })
 
   -- nothing is kept of the block

@@ -23,16 +23,16 @@ lookup-map : {X Y : Type 0} (test : ℕ → Bool) (f : X → Y) (es : List (ℕ 
 lookup-map test f [] = refl
 lookup-map test f (e ∷ es) = elim (test e.0) as (λ (b : Bool). cond b (Some (f e.1)) (lookup test (map (λ x. (x.0, f x.1)) es)) ≡ option_map f (cond b (Some e.1) (lookup test es))) [ true ↦ refl | false ↦ lookup-map test f es ]
 
-pub kept_in-view : {S : Type 0} (transaction : Option ℕ) (modules : HashMap ℕ Module S) (buffers : Buffers) (number : ℕ) → kept_in (record { transaction = transaction; modules = entries_kept modules buffers }) number ≡ kept_at modules buffers number
-kept_in-view transaction modules buffers number = lookup-map (nat_eq number) (module_kept buffers) modules.entries
+pub kept_in-view : {S : Type 0} (transaction download : Option ℕ) (modules : HashMap ℕ Module S) (buffers : Buffers) (number : ℕ) → kept_in (record { transaction = transaction; download = download; modules = entries_kept modules buffers }) number ≡ kept_at modules buffers number
+kept_in-view transaction download modules buffers number = lookup-map (nat_eq number) (module_kept buffers) modules.entries
 
 -- ---- one message more
 
-pub stands_first : (c : CarouselState) → c.transaction ≡ None → c.modules ≡ [] → StandsFor c []
-stands_first c e m = record { transaction = e; modules = λ number. ap (lookup (nat_eq number)) m }
+pub stands_first : (c : CarouselState) → c.transaction ≡ None → c.download ≡ None → c.modules ≡ [] → StandsFor c []
+stands_first c e d m = record { transaction = e; download = d; modules = λ number. ap (lookup (nat_eq number)) m }
 
 pub stands_same : (old new : CarouselState) (h : List Message) → KeepsSame old new → StandsFor old h → StandsFor new h
-stands_same old new h k s = record { transaction = k.transaction ∙ s.transaction; modules = λ number. k.modules number ∙ s.modules number }
+stands_same old new h k s = record { transaction = k.transaction ∙ s.transaction; download = k.download ∙ s.download; modules = λ number. k.modules number ∙ s.modules number }
 
 pub later_same : (f : Option Dii) (t : Option ℕ) (dii : Dii) → t ≡ option_map (λ dii. dii.transaction) f → is_transaction t dii.transaction ≡ true → later f (Indication dii) ≡ f
 later_same None None dii e h = cc
@@ -54,6 +54,7 @@ stands_again c dii same h s =
     let e = later_same (in_force h) c.transaction dii s.transaction same in
     record {
       transaction = s.transaction ∙ sym (ap (option_map (λ d. d.transaction)) (in_force-append h (Indication dii) ∙ e));
+      download = s.download ∙ sym (ap (option_map (λ d. d.download)) (in_force-append h (Indication dii) ∙ e));
       modules = λ number. s.modules number ∙ sym (kept_module-same h dii number e);
     }
 
@@ -62,6 +63,7 @@ stands_dii old new dii other takes h s =
     let e = later_other (in_force h) old.transaction dii s.transaction other in
     record {
       transaction = takes.transaction ∙ sym (ap (option_map (λ d. d.transaction)) (in_force-append h (Indication dii) ∙ e));
+      download = takes.download ∙ sym (ap (option_map (λ d. d.download)) (in_force-append h (Indication dii) ∙ e));
       modules = λ number. takes.modules number
           ∙ ap (λ (f : ℕ → Option Kept). option_map (kept_for f) (find (is_of_module number) (standings dii))) (λ i m. s.modules m i)
           ∙ sym (kept_module-other h dii number e);
@@ -70,6 +72,7 @@ stands_dii old new dii other takes h s =
 pub stands_block : (old new : CarouselState) (block : DataBlock) (answer : Put) → TakesBlock old new block answer → (h : List Message) → StandsFor old h → StandsFor new (h ++ Data block ∷ [])
 stands_block old new block answer takes h s = record {
   transaction = takes.transaction ∙ s.transaction ∙ sym (ap (option_map (λ d. d.transaction)) (in_force-append h (Data block) ∙ later_data (in_force h) block));
+  download = takes.download ∙ s.download ∙ sym (ap (option_map (λ d. d.download)) (in_force-append h (Data block) ∙ later_data (in_force h) block));
   modules = λ number. takes.modules number ∙ ap (option_map (with_block block)) (s.modules number) ∙ sym (kept_module-data h block number);
 }
 
@@ -91,41 +94,44 @@ bytes_held-known c h m s = ap (option_and_then bytes_kept) (s.modules m)
 -- ---- what the fields say
 
 module _ {S : Type 0} where
-  abbrev viewed : Option ℕ → HashMap ℕ Module S → Buffers → CarouselState
-  viewed transaction modules buffers = record { transaction = transaction; modules = entries_kept modules buffers }
+  abbrev viewed : Option ℕ → Option ℕ → HashMap ℕ Module S → Buffers → CarouselState
+  viewed transaction download modules buffers = record { transaction = transaction; download = download; modules = entries_kept modules buffers }
 
-  pub takes_block_by : (transaction : Option ℕ) (modules : HashMap ℕ Module S) (old new : Buffers) (block : DataBlock) (answer : Put) (v : CarouselState) → viewed transaction modules old ≡ v
+  pub takes_block_by : (transaction download : Option ℕ) (modules : HashMap ℕ Module S) (old new : Buffers) (block : DataBlock) (answer : Put) (v : CarouselState) → viewed transaction download modules old ≡ v
       → ((number : ℕ) → kept_at modules new number ≡ option_map (with_block block) (kept_at modules old number)) → answer ≡ answer_to (kept_at modules old block.«module») block
-      → TakesBlock v (viewed transaction modules new) block answer
-  takes_block_by transaction modules old new block answer v e kept_module a = subst (λ (x : CarouselState). TakesBlock x (viewed transaction modules new) block answer) e (record {
+      → TakesBlock v (viewed transaction download modules new) block answer
+  takes_block_by transaction download modules old new block answer v e kept_module a = subst (λ (x : CarouselState). TakesBlock x (viewed transaction download modules new) block answer) e (record {
     transaction = refl;
-    modules = λ number. kept_in-view transaction modules new number ∙ kept_module number ∙ ap (option_map (with_block block)) (sym (kept_in-view transaction modules old number));
-    answer_is = a ∙ ap (λ k. answer_to k block) (sym (kept_in-view transaction modules old block.«module»));
+    download = refl;
+    modules = λ number. kept_in-view transaction download modules new number ∙ kept_module number ∙ ap (option_map (with_block block)) (sym (kept_in-view transaction download modules old number));
+    answer_is = a ∙ ap (λ k. answer_to k block) (sym (kept_in-view transaction download modules old block.«module»));
   })
 
-  pub keeps_same_by : (transaction : Option ℕ) (modules : HashMap ℕ Module S) (old new : Buffers) (v : CarouselState) → viewed transaction modules old ≡ v → KeepModules modules old new → KeepsSame v (viewed transaction modules new)
-  keeps_same_by transaction modules old new v e keep = subst (λ (x : CarouselState). KeepsSame x (viewed transaction modules new)) e (record {
+  pub keeps_same_by : (transaction download : Option ℕ) (modules : HashMap ℕ Module S) (old new : Buffers) (v : CarouselState) → viewed transaction download modules old ≡ v → KeepModules modules old new → KeepsSame v (viewed transaction download modules new)
+  keeps_same_by transaction download modules old new v e keep = subst (λ (x : CarouselState). KeepsSame x (viewed transaction download modules new)) e (record {
     transaction = refl;
-    modules = λ number. kept_in-view transaction modules new number ∙ keep.same number ∙ sym (kept_in-view transaction modules old number);
+    download = refl;
+    modules = λ number. kept_in-view transaction download modules new number ∙ keep.same number ∙ sym (kept_in-view transaction download modules old number);
   })
 
-  pub takes_dii_by : (transaction : Option ℕ) (modules next : HashMap ℕ Module S) (old between new : Buffers) (dii : Dii) (v : CarouselState) → viewed transaction modules old ≡ v
-      → HaveStandings (kept_at modules old) (standings dii) next between → KeepModules next between new → TakesDii v (viewed (Some dii.transaction) next new) dii
-  takes_dii_by transaction modules next old between new dii v e have keep = subst (λ (x : CarouselState). TakesDii x (viewed (Some dii.transaction) next new) dii) e (record {
+  pub takes_dii_by : (transaction download : Option ℕ) (modules next : HashMap ℕ Module S) (old between new : Buffers) (dii : Dii) (v : CarouselState) → viewed transaction download modules old ≡ v
+      → HaveStandings (kept_at modules old) (standings dii) next between → KeepModules next between new → TakesDii v (viewed (Some dii.transaction) (Some dii.download) next new) dii
+  takes_dii_by transaction download modules next old between new dii v e have keep = subst (λ (x : CarouselState). TakesDii x (viewed (Some dii.transaction) (Some dii.download) next new) dii) e (record {
     transaction = refl;
-    modules = λ number. kept_in-view (Some dii.transaction) next new number ∙ keep.same number ∙ have.kept_is number
-        ∙ ap (λ (f : ℕ → Option Kept). option_map (kept_for f) (find (is_of_module number) (standings dii))) (λ i m. sym (kept_in-view transaction modules old m) i);
+    download = refl;
+    modules = λ number. kept_in-view (Some dii.transaction) (Some dii.download) next new number ∙ keep.same number ∙ have.kept_is number
+        ∙ ap (λ (f : ℕ → Option Kept). option_map (kept_for f) (find (is_of_module number) (standings dii))) (λ i m. sym (kept_in-view transaction download modules old m) i);
   })
 
   -- what is said of a module, by the fields
-  pub standing-by : (transaction : Option ℕ) (modules : HashMap ℕ Module S) (buffers : Buffers) (v : CarouselState) → viewed transaction modules buffers ≡ v → (h : List Message) (m : ℕ) → StandsFor v h
+  pub standing-by : (transaction download : Option ℕ) (modules : HashMap ℕ Module S) (buffers : Buffers) (v : CarouselState) → viewed transaction download modules buffers ≡ v → (h : List Message) (m : ℕ) → StandsFor v h
       → standing_of (in_force h) m ≡ option_map (λ x. x.standing) (value_at nat_eq modules m)
-  standing-by transaction modules buffers v e h m s =
-      standing-known v h m s ∙ ap (λ x. standing_kept (kept_in x m)) (sym e) ∙ ap standing_kept (kept_in-view transaction modules buffers m) ∙ by (value_at nat_eq modules m) where
+  standing-by transaction download modules buffers v e h m s =
+      standing-known v h m s ∙ ap (λ x. standing_kept (kept_in x m)) (sym e) ∙ ap standing_kept (kept_in-view transaction download modules buffers m) ∙ by (value_at nat_eq modules m) where
         by : (x : Option Module) → standing_kept (option_map (module_kept buffers) x) ≡ option_map (λ y. y.standing) x
         by None = refl
         by (Some y) = refl
 
-  pub bytes_held-by : (transaction : Option ℕ) (modules : HashMap ℕ Module S) (buffers : Buffers) (v : CarouselState) → viewed transaction modules buffers ≡ v → (h : List Message) (m : ℕ) → StandsFor v h
+  pub bytes_held-by : (transaction download : Option ℕ) (modules : HashMap ℕ Module S) (buffers : Buffers) (v : CarouselState) → viewed transaction download modules buffers ≡ v → (h : List Message) (m : ℕ) → StandsFor v h
       → option_and_then bytes_kept (kept_at modules buffers m) ≡ bytes_held h m
-  bytes_held-by transaction modules buffers v e h m s = ap (option_and_then bytes_kept) (sym (kept_in-view transaction modules buffers m)) ∙ ap (λ x. option_and_then bytes_kept (kept_in x m)) e ∙ bytes_held-known v h m s
+  bytes_held-by transaction download modules buffers v e h m s = ap (option_and_then bytes_kept) (sym (kept_in-view transaction download modules buffers m)) ∙ ap (λ x. option_and_then bytes_kept (kept_in x m)) e ∙ bytes_held-known v h m s

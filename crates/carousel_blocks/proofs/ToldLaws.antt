@@ -266,27 +266,27 @@ changes-left c none absent h s =
 -- ---- what the fields say
 
 module _ {S : Type 0} where
-  abbrev pub viewed : Option ℕ → HashMap ℕ Module S → Buffers → CarouselState
-  viewed transaction modules buffers = record { transaction = transaction; modules = entries_kept modules buffers }
+  abbrev pub viewed : Option ℕ → Option ℕ → HashMap ℕ Module S → Buffers → CarouselState
+  viewed transaction download modules buffers = record { transaction = transaction; download = download; modules = entries_kept modules buffers }
 
-  pub kept_at-known : (transaction : Option ℕ) (modules : HashMap ℕ Module S) (buffers : Buffers) (v : CarouselState) → viewed transaction modules buffers ≡ v → (n : ℕ) → kept_at modules buffers n ≡ kept_in v n
-  kept_at-known transaction modules buffers v e n = sym (kept_in-view transaction modules buffers n) ∙ ap (λ x. kept_in x n) e
+  pub kept_at-known : (transaction download : Option ℕ) (modules : HashMap ℕ Module S) (buffers : Buffers) (v : CarouselState) → viewed transaction download modules buffers ≡ v → (n : ℕ) → kept_at modules buffers n ≡ kept_in v n
+  kept_at-known transaction download modules buffers v e n = sym (kept_in-view transaction download modules buffers n) ∙ ap (λ x. kept_in x n) e
 
   -- the changes between the modules are those between what is kept
-  pub changes_by : (transaction next_transaction : Option ℕ) (modules next : HashMap ℕ Module S) (old between new : Buffers) (v : CarouselState) → viewed transaction modules old ≡ v → KeepModules next between new
-      → entry_changes (kept_at modules old) (kept_at next between) ≡ entry_changes (kept_in v) (kept_in (viewed next_transaction next new))
-  changes_by transaction next_transaction modules next old between new v e keep =
-      ap₂ entry_changes (λ i n. kept_at-known transaction modules old v e n i)
-      (λ i n. (sym (keep.same n) ∙ sym (kept_in-view next_transaction next new n)) i)
+  pub changes_by : (transaction next_transaction download next_download : Option ℕ) (modules next : HashMap ℕ Module S) (old between new : Buffers) (v : CarouselState) → viewed transaction download modules old ≡ v → KeepModules next between new
+      → entry_changes (kept_at modules old) (kept_at next between) ≡ entry_changes (kept_in v) (kept_in (viewed next_transaction next_download next new))
+  changes_by transaction next_transaction download next_download modules next old between new v e keep =
+      ap₂ entry_changes (λ i n. kept_at-known transaction download modules old v e n i)
+      (λ i n. (sym (keep.same n) ∙ sym (kept_in-view next_transaction next_download next new n)) i)
 
-  pub changes-left_by : (transaction : Option ℕ) (modules none : HashMap ℕ Module S) (buffers : Buffers) (v : CarouselState) → viewed transaction modules buffers ≡ v → none.entries ≡ []
+  pub changes-left_by : (transaction download : Option ℕ) (modules none : HashMap ℕ Module S) (buffers : Buffers) (v : CarouselState) → viewed transaction download modules buffers ≡ v → none.entries ≡ []
       → (h : List Message) → StandsFor v h → entry_changes (kept_at modules buffers) (kept_at none buffers) ≡ departures h
-  changes-left_by transaction modules none buffers v e nothing h s =
-      ap (λ (old : ℕ → Option Kept). entry_changes old (kept_at none buffers)) (λ i n. kept_at-known transaction modules buffers v e n i)
+  changes-left_by transaction download modules none buffers v e nothing h s =
+      ap (λ (old : ℕ → Option Kept). entry_changes old (kept_at none buffers)) (λ i n. kept_at-known transaction download modules buffers v e n i)
       ∙ changes-left v (kept_at none buffers) (λ n. ap (λ (es : List (ℕ × Module)). option_map (module_kept buffers) (lookup (nat_eq n) es)) nothing) h s
 
   -- what is said of the module that a block completed
-  pub block_change_by : (transaction : Option ℕ) (modules : HashMap ℕ Module S) (buffers : Buffers) (v : CarouselState) → viewed transaction modules buffers ≡ v → (h : List Message) → StandsFor v h → (n : ℕ) (x : Option Standing)
+  pub block_change_by : (transaction download : Option ℕ) (modules : HashMap ℕ Module S) (buffers : Buffers) (v : CarouselState) → viewed transaction download modules buffers ≡ v → (h : List Message) → StandsFor v h → (n : ℕ) (x : Option Standing)
       → x ≡ option_map (λ m. m.standing) (value_at nat_eq modules n) → option_map (λ s. completed n s.entry) x ≡ block_change (standing_of (in_force h)) (puts.Completed n)
-  block_change_by transaction modules buffers v e h s n x is =
-      ap (option_map (λ s. completed n s.entry)) (is ∙ sym (standing-by transaction modules buffers v e h n s))
+  block_change_by transaction download modules buffers v e h s n x is =
+      ap (option_map (λ s. completed n s.entry)) (is ∙ sym (standing-by transaction download modules buffers v e h n s))

@@ -10,9 +10,10 @@ use Rattle.carousel_blocks.specs.Message.{Message, Data}
 use Rattle.carousel_blocks.specs.InForce.{in_force, standing_of}
 use Rattle.carousel_blocks.specs.Held.{Kept, kept_module, bytes_held, counting_blocks, first_of, is_asked_by}
 
--- the transactionId of the DII in force, and what is kept of each of its modules, with the module's number
+-- the transactionId and the downloadId of the DII in force, and what is kept of each of its modules, with the module's number
 pub record CarouselState : Type 0 where
   pub transaction : Option ℕ
+  pub download : Option ℕ
   pub modules : List (ℕ × Kept)
 
 abbrev pub kept_in : CarouselState → ℕ → Option Kept
@@ -21,6 +22,7 @@ kept_in c number = lookup (nat_eq number) c.modules
 -- a carousel stands for the messages where it keeps what is to be kept of them
 pub record StandsFor (c : CarouselState) (messages : List Message) : Type 0 where
   pub transaction : c.transaction ≡ option_map (λ dii. dii.transaction) (in_force messages)
+  pub download : c.download ≡ option_map (λ dii. dii.download) (in_force messages)
   pub modules : (number : ℕ) → kept_in c number ≡ kept_module messages number
 
 -- a fact for each list of messages for which the carousel stands
@@ -30,6 +32,7 @@ ForMessages c P = (messages : List Message) → StandsFor c messages → P messa
 -- a carousel keeps the same as before
 pub record KeepsSame (old new : CarouselState) : Type 0 where
   pub transaction : new.transaction ≡ old.transaction
+  pub download : new.download ≡ old.download
   pub modules : (number : ℕ) → kept_in new number ≡ kept_in old number
 
 -- the entry of a module in the DII in force, and why it is skipped, where it is

@@ -8,6 +8,7 @@ pub mod Carousel
 pub mod Modules
 pub mod Drafts
 pub mod Changes
+pub mod DataEvents
 pub mod Steps
 pub mod Order
 pub mod Staging

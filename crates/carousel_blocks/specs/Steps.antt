@@ -25,6 +25,7 @@ is_in_force c transaction = is_transaction c.transaction transaction
 -- another DII is in force
 pub record TakesDii (old new : CarouselState) (dii : Dii) : Type 0 where
   pub transaction : new.transaction ≡ Some dii.transaction
+  pub download : new.download ≡ Some dii.download
   pub modules : (number : ℕ) → kept_in new number ≡ option_map (kept_for (kept_in old)) (find (is_of_module number) (standings dii))
 
 -- the block is one that is asked for, and none came for its number
@@ -51,12 +52,14 @@ answer_to (Some k) block = answer_kept k block
 -- a block came
 pub record TakesBlock (old new : CarouselState) (block : DataBlock) (answer : Put) : Type 0 where
   pub transaction : new.transaction ≡ old.transaction
+  pub download : new.download ≡ old.download
   pub modules : (number : ℕ) → kept_in new number ≡ option_map (with_block block) (kept_in old number)
   pub answer_is : answer ≡ answer_to (kept_in old block.module) block
 
 -- a block is taken back
 pub record TakesBack (old new : CarouselState) (block : DataBlock) : Type 0 where
   pub transaction : new.transaction ≡ old.transaction
+  pub download : new.download ≡ old.download
   pub modules : (number : ℕ) → kept_in new number ≡ option_map (without_block block) (kept_in old number)
 
 -- the same of a section, by the DDB that it carries; without one nothing changes

@@ -19,6 +19,9 @@ use std::alloc::Global;
 use std::collections::HashMap;
 use std::marker::Model;
 
+/// The data_event_id is a downloadId divided by this: its top four bits.
+const EVENT_ID_UNIT: u32 = 1 << 28;
+
 /// The data carousel of one component: the DII in force, and the blocks that came for its modules.
 ///
 /// It is told the component's messages in their order: each intact section by `take`, which says what changed; or each
@@ -29,6 +32,8 @@ pub struct Carousel {
     alloc: Global,
     /// The transactionId of the DII in force.
     transaction: Option<u32>,
+    /// The downloadId of the DII in force.
+    download: Option<u32>,
     modules: Modules,
     buffers: Slab<Buffer>,
 }
@@ -41,6 +46,7 @@ impl Model for Carousel {
 
     ghost view = { λ c. record {
       transaction = c.transaction;
+      download = c.download;
       modules = entries_kept c.modules c.buffers;
     } };
 
@@ -56,6 +62,7 @@ impl Carousel {
     ghost use Rattle.carousel_blocks.specs.Changes.{changes, departures, number_bound};
     ghost use Rattle.carousel_blocks.specs.Steps.{TakesDii, TakesBlock, is_in_force, TakesBack, TakesBackBy, entry_changes, block_change};
     ghost use Rattle.carousel_blocks.specs.Staging.{made_whole};
+    ghost use Rattle.carousel_blocks.specs.DataEvents.{data_event_id};
 
     /// A carousel of which no message came.
     pub fn new(alloc: Global) -> Carousel
@@ -64,6 +71,7 @@ impl Carousel {
         Carousel {
             alloc,
             transaction: None,
+            download: None,
             modules: HashMap::new(alloc),
             buffers: Slab::new(alloc),
         }
@@ -158,6 +166,15 @@ impl Carousel {
             ≡ option_map (λ dii. dii.transaction) (in_force messages)) }
     {
         self.transaction
+    }
+
+    /// The data_event_id of the DII in force, 0 to 15: the top four bits of its downloadId; None where no DII came.
+    pub fn data_event_id(&self) -> Option<u8>
+        ensures { ForMessages self.now (λ messages. result
+            ≡ option_map data_event_id (in_force messages)) }
+    {
+        let download = self.download?;
+        Some((download / EVENT_ID_UNIT) as u8)
     }
 
     /// The entry of a module in the DII in force; None where there is none.
@@ -264,6 +281,7 @@ impl Carousel {
         ensures same { OnErr result (KeepsSame self.old self.new) }
     {
         let transaction = dii.transaction;
+        let download = dii.download;
         match next_modules(self.alloc, &self.modules, &mut self.buffers, dii) {
             Err(error) => {
                 give_back_unused(&self.modules, &mut self.buffers);
@@ -272,6 +290,7 @@ impl Carousel {
             Ok((modules, changes)) => {
                 self.modules = modules;
                 self.transaction = Some(transaction);
+                self.download = Some(download);
                 give_back_unused(&self.modules, &mut self.buffers);
                 Ok(changes)
             }

@@ -8,6 +8,7 @@ ghost use Rattle.std.specs.List.Sorted.{IsStrictlyIncreasing};
 ghost use Rattle.carousel_blocks.specs.Held.{bytes_kept};
 ghost use Rattle.carousel_blocks.specs.Modules.{AreModules, KeepModules, kept_at};
 ghost use Rattle.carousel_blocks.specs.Drafts.{AreModulesOf};
+ghost use Rattle.carousel_blocks.specs.DataEvents.{data_event, data_event_between, is_data_event};
 ghost use Rattle.carousel_blocks.specs.Changes.{line_by, gone, changed, appeared, completed, number_bound};
 ghost use Rattle.carousel_blocks.specs.Steps.{entry_change, entry_change_at, entry_changes};
 
@@ -33,6 +34,14 @@ pub enum ChangeLine {
     Gone,
     /// Its entry is new or changed, and skipped: none of its blocks is kept.
     Skipped(SkipCause),
+    /// The data event changes: the DII that comes in force has another data_event_id than the one before. It is said of
+    /// module 0 of a service's entry component, and of no module's entry.
+    DataEvent {
+        /// The data_event_id before, 0 to 15.
+        before: u8,
+        /// The data_event_id from now on, 0 to 15.
+        after: u8,
+    },
 }
 
 impl ChangeLine {
@@ -72,6 +81,26 @@ const GONE: u8 = 1;
 const APPEARED: u8 = 2;
 
 impl Change {
+    /// What is told of a data event: the data_event_ids before it and from then on. It is said of module 0, and has no
+    /// status.
+    pub fn data_event(before: u8, after: u8) -> Change
+        ensures { result ≡ data_event before after }
+    {
+        Change {
+            module: 0,
+            status: None,
+            line: Some(ChangeLine::DataEvent { before, after }),
+            locked: false,
+        }
+    }
+
+    /// Whether it is that of a data event.
+    pub fn is_data_event(&self) -> bool
+        ensures { result ≡ is_data_event self.now }
+    {
+        matches!(self.line, Some(ChangeLine::DataEvent { .. }))
+    }
+
     fn gone(number: u16) -> Change
         ensures { result ≡ gone number }
     {
@@ -116,6 +145,19 @@ impl Change {
             locked: false,
         }
     }
+}
+
+/// What is told where the data_event_id of the DII in force was this one, and is that one now; None exactly where it stays,
+/// or no DII is in force before or now.
+pub fn data_event_between(before: Option<u8>, after: Option<u8>) -> Option<Change>
+    ensures { result ≡ data_event_between before after }
+{
+    let before = before?;
+    let after = after?;
+    if before == after {
+        return None;
+    }
+    Some(Change::data_event(before, after))
 }
 
 /// The modules of the next DII, and what changes by it. Modules whose entries are unchanged keep their buffers, others

@@ -6,7 +6,7 @@
 //! of the list. Memory is taken for a module with its first block, and given back when its entry changes or goes; a
 //! block costs its copy and a look-up. `Carousel::take` also tells what each section changed: which modules came, went
 //! or changed, and which are held or skipped from then on. `Carousel::take_back` takes the
-//! last block of a module back.
+//! last block of a module back. `Carousel::data_event_id` and `data_event_between` tell data events.
 #![tactic(auto)]
 
 mod buffer;
@@ -18,7 +18,7 @@ mod put;
 mod standing;
 
 pub use crate::carousel::Carousel;
-pub use crate::changes::{Change, ChangeLine};
+pub use crate::changes::{Change, ChangeLine, data_event_between};
 pub use crate::laws::{
     law_of_block_change, law_of_block_counts, law_of_block_order, law_of_change_order,
     law_of_completed_modules, law_of_counting, law_of_entries, law_of_first_blocks,

@@ -1,6 +1,6 @@
 -- The locks after sections as long as the DII in force is only repeated, and what a look-up finds then.
 use Rattle.std.proofs.Common.{◌≡◌, ℕ, ◌==◌, Bool, true, false, not, ◌&&◌, ◌||◌, List, [], ◌∷◌, ◌++◌, map, refl, sym, ap, ap₂, ◌∙◌, subst, eqb-true, ◌⊎◌, inl, inr, cond, find, if◌then◌else◌}
-use Rattle.std.specs.Prelude.{◌≢◌, All, Option, Some, None, is_some, option_map, option_and_then}
+use Rattle.std.specs.Prelude.{◌≢◌, All, Option, Some, None, is_some, option_map, option_and_then, option_to_list}
 use Rattle.std.specs.Option.{option_map_or}
 use Rattle.std.proofs.lemmas.Bool.{and_parts}
 use Rattle.std.proofs.lemmas.List.Elements.{All-map, All-weaker}
@@ -11,17 +11,18 @@ use Rattle.carousel_blocks.specs.InForce.{in_force}
 use Rattle.carousel_blocks.specs.Message.{Message, messages_of}
 use Rattle.multipart_entities.specs.declared.paths.Path.{Path}
 use Rattle.module_store.specs.Copies.{KeptModule}
+use Rattle.module_store.specs.DataEvents.{data_event_by}
 use Rattle.module_store.specs.Resources.{Resource, Waiting, look, presence, presence_in, start_component}
 use Rattle.module_store.specs.Resources as resources
 use Rattle.module_store.specs.Store.{Stored, held_in, messages_of_component}
 use Rattle.module_store.specs.Store as store
-use Rattle.module_locks.specs.Locks.{Lock, Modules, changes_by, change_told, delivers, is_lock_on, kept_now, kept_of, kept_on, lock_behind, lock_on, look_kept, look_up, start_path, start_path_as, with_section}
+use Rattle.module_locks.specs.Locks.{Lock, Modules, changes_by, change_told, delivers, is_lock_on, kept_now, kept_of, kept_on, lock_behind, lock_on, locks_at, locks_left, look_kept, look_up, module_changes_by, start_path, start_path_as, with_section}
 use Rattle.carousel_laws.specs.Freedom.{OnlyRepeat, Repeats}
 use Rattle.carousel_laws.specs.Services.{IsDelivery, KeepTheSame, lock_without_number, locks_without_numbers, modules_after, without_number}
 use Rattle.carousel_laws.specs.Stores.{stored_after}
 use Rattle.carousel_laws.proofs.RepeatLemmas.{ChangeLaws, all_deliveries, still_in_force}
 use Rattle.carousel_laws.proofs.SectionLemmas.{OrderLaw, find_passes, first_repeats, others_repeat}
-use Rattle.carousel_laws.proofs.StepLemmas.{delivered_new, its_after, kept_is_held, kept_stays, kept_there, look_of_kept, looks_stay, others_after, start_of_kept, start_stays, there_is}
+use Rattle.carousel_laws.proofs.StepLemmas.{delivered_new, its_after, kept_is_held, kept_stays, kept_there, look_of_kept, looks_stay, no_event, others_after, start_of_kept, start_stays, there_is}
 use Rattle.carousel_laws.proofs.StoreLemmas.{held_alike, looks_alike, presence_alike, start_alike}
 
 -- ---- lists
@@ -222,8 +223,17 @@ module _ (laws : ChangeLaws) (modules : Modules) (tag : ℕ) (messages : List Me
   abbrev locks_now : List Lock
   locks_now = locks_without_numbers modules.locks
 
+  -- it is no data event, so no lock ends
+  none : data_event_by tag section was ≡ None
+  none = no_event laws was tag messages dii section its is repeat
+
+  locks_stay : locks_at tag section modules ≡ modules.locks
+  locks_stay = ap (λ event. locks_left event modules.locks) none
+
   locks_step : locks_without_numbers (with_section tag section modules).locks ≡ map since locks_now
-  locks_step = map_square lock_without_number (lock_behind tag (store.changes_by tag section was) now) since lock_without_number lock_step modules.locks
+  locks_step =
+      ap (λ l. locks_without_numbers (map (lock_behind tag (store.changes_by tag section was) now) l)) locks_stay
+      ∙ map_square lock_without_number (lock_behind tag (store.changes_by tag section was) now) since lock_without_number lock_step modules.locks
 
   -- the same lock is on the module
   lock_since_on : (component number : ℕ) (locks : List Lock) → lock_on (map since locks) component number ≡ option_map since (lock_on locks component number)
@@ -320,11 +330,12 @@ module _ (laws : ChangeLaws) (modules : Modules) (tag : ℕ) (messages : List Me
   -- all that is told are deliveries
   pub told_deliveries : All IsDelivery (changes_by tag section modules)
   told_deliveries =
-      All-map IsDelivery (change_told tag modules.locks) (store.changes_by tag section was)
-      (All-weaker IsDelivery (λ change. IsDelivery (change_told tag modules.locks change)) told (store.changes_by tag section was)
-      (subst (λ o. All IsDelivery (store.changes_behind o section)) (sym its) (all_deliveries laws messages dii section is repeat)))
+      subst (λ (o : Option Change). All IsDelivery (option_to_list o ++ module_changes_by tag section modules)) (sym none)
+      (All-map IsDelivery (change_told tag (locks_at tag section modules)) (store.changes_by tag section was)
+      (All-weaker IsDelivery (λ change. IsDelivery (change_told tag (locks_at tag section modules) change)) told (store.changes_by tag section was)
+      (subst (λ o. All IsDelivery (store.changes_behind o section)) (sym its) (all_deliveries laws messages dii section is repeat))))
     where
-      told : (change : Change) → IsDelivery change → IsDelivery (change_told tag modules.locks change)
+      told : (change : Change) → IsDelivery change → IsDelivery (change_told tag (locks_at tag section modules) change)
       told change d = record { version = d.version; size = d.size; line_is = d.line_is }
 
 -- ---- all sections

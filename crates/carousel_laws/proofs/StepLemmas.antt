@@ -1,7 +1,9 @@
 -- What a store has after one more section as long as the DII in force is only repeated.
 use Rattle.std.proofs.Common.{◌≡◌, ℕ, ◌==◌, Bool, true, false, List, [], ◌∷◌, ◌++◌, refl, sym, ap, ◌∙◌, subst, eqb-true, cond}
 use Rattle.std.specs.Prelude.{◌≢◌, Option, Some, None, codes, is_some, option_map, option_and_then}
+use Rattle.std.proofs.lemmas.Bool.{eq-eqb}
 use Rattle.dsmcc_messages.specs.declared.dii.Dii.{Dii}
+use Rattle.carousel_blocks.specs.DataEvents.{data_event, data_event_between, data_event_id}
 use Rattle.carousel_blocks.specs.declared.standing.SkipCause.{SkipCause}
 use Rattle.carousel_blocks.specs.declared.standing.Standing.{Standing}
 use Rattle.carousel_blocks.specs.Held.{blocks_from, bytes_by, bytes_held, bytes_kept, count_of, counting_blocks, first_of, joined_bytes, kept_with}
@@ -9,6 +11,7 @@ use Rattle.carousel_blocks.specs.InForce.{in_force, standing_of}
 use Rattle.carousel_blocks.specs.Message.{Message, messages_of}
 use Rattle.multipart_entities.specs.declared.paths.Path.{Path}
 use Rattle.module_store.specs.Copies.{KeptModule}
+use Rattle.module_store.specs.DataEvents.{data_event_by, event_id}
 use Rattle.module_store.specs.Resources.{Waiting, holds_entity, info_in_force, look, look_at, look_behind, look_by, look_in, look_unless, Presence, presence, presence_at, presence_in, presence_unless, start_component, start_name, start_path}
 use Rattle.module_store.specs.Resources.Presence.{Absent, Announced, Held}
 use Rattle.module_store.specs.Store.{Stored, changes_behind, changes_by, messages_of_component, number_of, with_section}
@@ -94,6 +97,16 @@ start_of_kept stored kept is = ap named (by_messages (messages_of_component stor
   by_messages None e = absurd cc
   by_messages (Some messages) e = by_entry (standing_of (in_force messages) 0) (bytes_held messages 0) e
 
+-- ---- the data_event_id
+
+-- what it is in a component
+abbrev id_in : Option (List Message) → Option ℕ
+id_in messages = option_and_then (λ l. option_map data_event_id (in_force l)) messages
+
+none_between : (id : Option ℕ) → data_event_between id id ≡ None
+none_between None = refl
+none_between (Some n) = ap (λ b. cond b None (Some (data_event n n))) (eq-eqb n n refl)
+
 -- ---- one more section
 
 module _ (laws : ChangeLaws) (stored : Stored) (tag : ℕ) (messages : List Message) (dii : Dii) (section : List ℕ)
@@ -171,3 +184,10 @@ module _ (laws : ChangeLaws) (stored : Stored) (tag : ℕ) (messages : List Mess
   -- a module of the component is delivered exactly where it is held now, and wasn't before
   pub delivered_new : (number : ℕ) → delivers number (changes_by tag section stored) ≡ is_new (bytes_held messages number) (bytes_held more number)
   delivered_new number = ap (λ o. delivers number (changes_behind o section)) its ∙ delivers_new laws messages dii section is repeat number
+
+  -- it is no data event
+  pub no_event : data_event_by tag section stored ≡ None
+  no_event =
+      ap (data_event_between (event_id stored))
+      (sym (by_component (λ o p. id_in o ≡ id_in p) (λ o. refl) (ap (option_map data_event_id) (is ∙ sym force)) start_component))
+      ∙ none_between (event_id stored)

@@ -14,6 +14,8 @@
 #[cfg(test)]
 mod carousels;
 #[cfg(test)]
+mod data_events;
+#[cfg(test)]
 mod entities;
 #[cfg(test)]
 mod generated;

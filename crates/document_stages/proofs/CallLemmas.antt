@@ -16,7 +16,7 @@ use Rattle.browser_objects.specs.declared.effects.Effect.{Effect}
 use Rattle.browser_objects.specs.declared.effects.Effect.TheVariants as effects
 use Rattle.module_locks.specs.Locks.{look_up}
 use Rattle.module_locks.specs.Standing.{ForModules}
-use Rattle.document_stages.specs.Acting.{Acting, CallAnswer, is_unload, launch, node_call, with_browser}
+use Rattle.document_stages.specs.Acting.{Acting, CallAnswer, is_ending, launch, node_call, with_browser}
 use Rattle.document_stages.specs.Calling.{HasCalled, Replies}
 use Rattle.document_stages.specs.Hosting.{answer_of_call, bytes_found, open_table, reply_of_call, reply_of_effect, reply_with}
 use Rattle.document_stages.specs.declared.script_hosts.ScriptHost.{ScriptHost}
@@ -35,7 +35,7 @@ node-heap a node name heap =
 
 -- and so do launches
 launch-heap : (path : Path) (a : Acting) (heap : List ObjectState) → (launch path a heap).heap ≡ heap
-launch-heap path a heap = either-heap (is_unload a.event.event) _ _ heap refl refl
+launch-heap path a heap = either-heap (is_ending a.event.event) _ _ heap refl refl
 
 -- a call that leaves the modules
 left-modules : {E : Type 0} (r : Result HostAnswer E) (old new : ScriptHost) (answered : CallAnswer) (heap : List ObjectState) → IfOk r (λ (answer : HostAnswer). answer ≡ answered.answer) → OnOk r (new.stage.acting ≡ answered.acting) → new.modules ≡ old.modules → answered.heap ≡ heap → IfOk r (λ (answer : HostAnswer). ForModules old.modules (λ modules. Replies new answer heap (reply_with modules answered)))

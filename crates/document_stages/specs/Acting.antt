@@ -387,15 +387,16 @@ with_line line a = record a { text = a.text ++ line }
 abbrev pub gives_nan : Acting → List ObjectState → CallAnswer
 gives_nan a heap = gives (Number NotANumber) a heap
 
--- the handler of `unload` runs: for it alone that event is the current one
-abbrev pub is_unload : Option Event → Bool
-is_unload (Some events.Unload) = true
-is_unload other = false
+-- the handler runs because the document ends: that of `unload`, or one of a data event
+abbrev pub is_ending : Option Event → Bool
+is_ending (Some events.Unload) = true
+is_ending (Some (events.DataEvent item)) = true
+is_ending other = false
 
--- A launch is told and ends the handler. The handler of `unload` cannot launch another document.
+-- A launch is told and ends the handler. A handler that runs because the document ends cannot launch another one.
 abbrev pub launch : Path → Acting → List ObjectState → CallAnswer
 launch path a heap =
-    if is_unload a.event.event then gives_nan a heap
+    if is_ending a.event.event then gives_nan a heap
     else record {
       answer = Ended;
       acting = record (with_line (launch_line path) a) { launched = Some path };

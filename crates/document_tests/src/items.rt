@@ -20,6 +20,21 @@ fn items_of_a_document(rt: HostRuntime) {
 }
 
 #[test]
+fn items_of_a_data_event(rt: HostRuntime) {
+    let alloc = rt.alloc();
+    let path = Path {
+        component: 0x40,
+        module: 0,
+        name: word(&rt, alloc, b""),
+    };
+    let document = b"<bml><beitem type='DataEventChanged' subscribe='subscribe'/></bml>";
+    let tree = tree_of(&rt, alloc, document);
+    let items = Items::new(alloc, &path, &tree).expect(&rt, "memory");
+    let nodes = items.data_event_items(alloc).expect(&rt, "memory");
+    assert!(rt; nodes.len() == 1);
+}
+
+#[test]
 fn messages_are_noted(rt: HostRuntime) {
     let alloc = rt.alloc();
     // One descriptor of a message, of group 1, id 7 and version 3.

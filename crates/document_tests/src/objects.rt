@@ -69,3 +69,10 @@ fn nodes_are_read_and_written(rt: HostRuntime) {
     let value = get_node(alloc, &tree, &mut styles, &NO_FOCUS, &NO_EVENT, base, &name);
     assert!(rt; value.is_ok());
 }
+
+#[test]
+fn no_event_is_seen_outside_of_handlers(rt: HostRuntime) {
+    let event = CurrentEvent::none();
+    let seen = event.seen();
+    assert!(rt; seen.is_none());
+}

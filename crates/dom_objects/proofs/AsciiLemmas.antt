@@ -78,6 +78,7 @@ tested-name (events.Fired item component message) = refl
 tested-name (events.Updated item status) = refl
 tested-name (events.Locked item status) = refl
 tested-name (events.Button item) = refl
+tested-name (events.DataEvent item) = refl
 
 pub ascii-name : (event : Event) → All (λ byte. byte < 128) (name_of event)
 ascii-name event = ascii-tested (name_of event) (tested-name event)

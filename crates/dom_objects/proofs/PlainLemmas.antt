@@ -1,5 +1,5 @@
 -- What is read is neither an object nor a function.
-use Rattle.std.proofs.Common.{◌≡◌, ℕ, Bool, true, false, cond, List, [], ◌∷◌, ◌++◌, Option, Some, None, refl}
+use Rattle.std.proofs.Common.{◌≡◌, ℕ, Bool, true, false, cond, List, [], ◌∷◌, ◌++◌, Option, Some, None, codes, refl}
 use Rattle.std.specs.Prelude.{◌&&◌, is_some, unwrap_or, if◌then◌else◌}
 use Rattle.std.specs.List.{list_all}
 use Rattle.std.specs.Option.{option_map_or}
@@ -15,12 +15,13 @@ use Rattle.style_reader.specs.declared.properties.Property.{Property}
 use Rattle.es_values.specs.Values.{is_plain}
 use Rattle.es_values.specs.declared.values.HostRef.{HostRef}
 use Rattle.es_values.specs.declared.values.HostRef.TheVariants.{Document, Browser, Ureg, Greg, Event, Node, Style}
-use Rattle.es_values.specs.declared.values.Value.TheVariants.{Undefined, Null, Host}
+use Rattle.es_values.specs.declared.values.Value.TheVariants.{Undefined, Null, Str, Host}
+use Rattle.event_queue.specs.Events.{name_of}
 use Rattle.event_queue.specs.declared.events.Event.{Event as TheEvent}
 use Rattle.event_queue.specs.declared.events.Event.TheVariants as events
 use Rattle.dom_objects.specs.Parts.{Parts, state_of_number}
 use Rattle.dom_objects.specs.declared.current_events.CurrentEvent.{CurrentEvent}
-use Rattle.dom_objects.specs.Reads.{ElementRow, ElementTable, Rows, document_rows, element_rows, element_table, element_value, event_rows, own_event_rows, node_rows, node_value, own_rows, own_table, property_named, read_in, read_value, row_of, table_rows, style_read, style_text, text_rows, walk_rows}
+use Rattle.dom_objects.specs.Reads.{ElementRow, ElementTable, Rows, document_rows, element_rows, element_table, element_value, event_rows, own_event_rows, node_rows, node_value, own_rows, own_table, property_named, read_in, read_value, row_of, seen_event, table_rows, style_read, style_text, text_rows, walk_rows}
 use Rattle.dom_objects.specs.Reads.ElementRow.{Tag, Attribute, StyleFor}
 
 abbrev are_plain : Rows → Bool
@@ -80,7 +81,7 @@ plain-nodes items node = by (tag_of items node) (text_of items node)
 -- ---- the document and the current event
 
 plain-document : (focus : Focus) (current : CurrentEvent) → are_plain (document_rows focus current) ≡ true
-plain-document focus current = by current.event (number_of focus.focus)
+plain-document focus current = by (seen_event current.event) (number_of focus.focus)
   where
     by : (event : Option TheEvent) (node : Option ℕ) → (is_plain (option_map_or (λ e. Host Event) event Null) && (is_plain (node_value node) && true)) ≡ true
     by None None = refl
@@ -102,11 +103,13 @@ plain-own items (events.Fired item component message) = refl
 plain-own items (events.Updated item status) = refl
 plain-own items (events.Locked item status) = refl
 plain-own items (events.Button item) = refl
+plain-own items (events.DataEvent item) = refl
 
 plain-events : (items : List Item) (current : CurrentEvent) → are_plain (event_rows items current) ≡ true
-plain-events items current = by current.event
+plain-events items current = by (seen_event current.event)
   where
-    by : (event : Option TheEvent) → are_plain (event_rows items (record current { event = event })) ≡ true
+    by : (event : Option TheEvent)
+        → are_plain (option_map_or (λ (e : TheEvent). (codes "type", Str (name_of e)) ∷ (codes "target", Host (Node current.target)) ∷ own_event_rows items e) event []) ≡ true
     by None = refl
     by (Some event) = plain-own items event
 

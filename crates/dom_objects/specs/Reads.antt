@@ -1,7 +1,7 @@
 -- What scripts read of the document, of its nodes, of their styles and of the current event: the
 -- rows of a table, names with their values (after the DOM interfaces of BML, ARIB STD-B24 volume 2,
 -- in this project's own profile). A name that has no row reads as Undefined.
-use Rattle.std.specs.Prelude.{ℕ, Bool, true, false, is_some, if◌then◌else◌, pos, List, [], ◌∷◌, ◌++◌, length, Option, None, codes, find, unwrap_or}
+use Rattle.std.specs.Prelude.{ℕ, Bool, true, false, is_some, if◌then◌else◌, pos, List, [], ◌∷◌, ◌++◌, length, Option, Some, None, codes, find, unwrap_or}
 use Rattle.std.specs.Map.{lookup}
 use Rattle.std.specs.Option.{option_map_or}
 use Rattle.bml_bytes.specs.Words.{is_same}
@@ -130,9 +130,19 @@ node_rows items node =
 
 -- ---- the document and the current event
 
+-- scripts see each event but a data event
+abbrev pub is_seen : TheEvent → Bool
+is_seen (events.DataEvent item) = false
+is_seen event = true
+
+-- the event that scripts see as the current one: a data event's handlers have none
+abbrev pub seen_event : Option TheEvent → Option TheEvent
+seen_event None = None
+seen_event (Some event) = if is_seen event then Some event else None
+
 abbrev pub document_rows : Focus → CurrentEvent → Rows
 document_rows focus current =
-    (codes "currentEvent", option_map_or (λ event. Host Event) current.event Null)
+    (codes "currentEvent", option_map_or (λ event. Host Event) (seen_event current.event) Null)
     ∷ (codes "currentFocus", node_value (number_of focus.focus)) ∷ []
 
 abbrev pub count_value : ℕ → Value
@@ -176,7 +186,7 @@ event_rows items current =
     option_map_or
     (λ event. (codes "type", Str (name_of event))
     ∷ (codes "target", Host (Node current.target)) ∷ own_event_rows items event)
-    current.event []
+    (seen_event current.event) []
 
 -- ---- styles
 

@@ -21,7 +21,7 @@ pub fn document_value(focus: &Focus, event: &CurrentEvent, name: &Text) -> Value
     ensures { result ≡ read_in (document_rows focus.now event.now) name.now }
 {
     if name.is_word("currentEvent") {
-        match &event.event {
+        match event.seen() {
             Some(_) => Value::Host(HostRef::Event),
             None => Value::Null,
         }
@@ -43,7 +43,7 @@ pub fn event_value(
 ) -> Result<Value, NoMemory>
     ensures { IfOk result (λ value. value ≡ read_in (event_rows tree.now event.now) name.now) }
 {
-    let Some(current) = &event.event else {
+    let Some(current) = event.seen() else {
         return Ok(Value::Undefined);
     };
     if name.is_word("type") {

@@ -35,7 +35,8 @@ use Rattle.es_eval.specs.declared.works.Now.TheVariants as now
 use Rattle.es_eval.specs.declared.works.OpenCall.{OpenCall}
 use Rattle.es_eval.specs.declared.works.Work.TheVariants.{Call as CallItem}
 use Rattle.es_eval.specs.Actions.{Action, Next, answered, behind, by_row, charged}
-use Rattle.es_eval.specs.Calls.{Body, bound, call_member, call_number, call_property, construct, enter, inside, most_calls, new_value, object_or, outside, with_new_object}
+use Rattle.es_frames.specs.Depth.{most_calls}
+use Rattle.es_eval.specs.Calls.{Body, bound, call_member, call_number, call_property, construct, enter, inside, new_value, object_or, outside, with_new_object}
 use Rattle.es_shapes.specs.Functions.{declared_function}
 use Rattle.es_shapes.specs.devices.Parts.{declared_at, function_trees, listed, parts_from, statements_from, tree_of, trees_from}
 use Rattle.es_shapes.specs.Codes.{declared_by, function_at, trees_at}
@@ -233,16 +234,14 @@ entered-run programs old mid new declared told function this arguments next is s
 
 -- ---- how deep calls are
 
-pub too_deep : (frames : ℕ) → 64 < frames → nat_lt (frames - 1) most_calls ≡ false
-unfolding most_calls
+pub too_deep : (frames : ℕ) → most_calls < frames → nat_lt (frames - 1) most_calls ≡ false
 too_deep frames deep = grind (arith, nat_tests)
 
-pub not_deep : (frames : ℕ) → frames ≤ 64 → 1 ≤ frames → nat_lt (frames - 1) most_calls ≡ true
-unfolding most_calls
+pub not_deep : (frames : ℕ) → frames ≤ most_calls → 1 ≤ frames → nat_lt (frames - 1) most_calls ≡ true
 not_deep frames deep some = grind (arith, nat_tests)
 
 pub shallow-run : (programs : List ToldProgram) (old new : MachineState) (function : Function)
-    (this : Value) (arguments : List Value) (next : Now) → length old.frames ≤ 64
+    (this : Value) (arguments : List Value) (next : Now) → length old.frames ≤ most_calls
     → 1 ≤ length old.frames
     → GoesOn programs old (as_value (enters_body programs function this arguments)) new next
     → GoesOn programs old
@@ -251,7 +250,7 @@ shallow-run programs old new function this arguments next shallow some on =
     rw (not_deep (length old.frames) shallow some) on
 
 pub deep-run : (programs : List ToldProgram) (old : MachineState) (body : Body) (function : Function)
-    (this : Value) (arguments : List Value) (next : Now) → 64 < length old.frames
+    (this : Value) (arguments : List Value) (next : Now) → most_calls < length old.frames
     → next ≡ now.Over (Stopped Depth)
     → GoesOn programs old (as_value (enter body function this arguments)) old next
 deep-run programs old body function this arguments next deep over =
@@ -270,7 +269,7 @@ on_named programs now old new declared this arguments next same on =
 
 pub enter-run : (programs now : List ToldProgram) (old new : MachineState) (declared : Declared)
     (this : Value) (arguments : List Value) (next : Now) → now ≡ programs
-    → length old.frames ≤ 64 → 1 ≤ length old.frames
+    → length old.frames ≤ most_calls → 1 ≤ length old.frames
     → ((function : Function) → declared_at now declared ≡ Some function
     → GoesOn now old (as_value (enters_body now function this arguments)) new next)
     → (function : Function) → declared_at programs declared ≡ Some function
@@ -319,14 +318,14 @@ new-run programs now old new number declared arguments next same is some on =
 -- ---- `new`
 
 pub deep-construct : (programs : List ToldProgram) (old : MachineState) (body : Body)
-    (function : Function) (arguments : List Value) (next : Now) → 64 < length old.frames
+    (function : Function) (arguments : List Value) (next : Now) → most_calls < length old.frames
     → next ≡ now.Over (Stopped Depth)
     → GoesOn programs old (as_value (construct body function arguments)) old next
 deep-construct programs old body function arguments next deep over =
     ap (run_from programs old) over ∙ rw (too_deep (length old.frames) deep) refl
 
 module _ (programs : List ToldProgram) (old : MachineState) (function : Function)
-    (arguments : List Value) (shallow : length old.frames ≤ 64) (some : 1 ≤ length old.frames)
+    (arguments : List Value) (shallow : length old.frames ≤ most_calls) (some : 1 ≤ length old.frames)
   where
     fs : List Function
     fs = declared_by programs

@@ -10,7 +10,8 @@ use Rattle.es_values.specs.Objects.{ObjectState}
 use Rattle.es_eval.specs.declared.outcomes.Outcome.TheVariants.{Ended, Stopped}
 use Rattle.es_eval.specs.declared.outcomes.StopCause.TheVariants.{Depth, NotCallable, NotObject}
 use Rattle.es_eval.specs.Actions.{Next, answered}
-use Rattle.es_eval.specs.Calls.{Body, call_member, call_number, call_property, call_value, construct, construct_as, enter, inside, most_calls, new_value, object_or, outside, with_new_object}
+use Rattle.es_frames.specs.Depth.{most_calls}
+use Rattle.es_eval.specs.Calls.{Body, call_member, call_number, call_property, call_value, construct, construct_as, enter, inside, new_value, object_or, outside, with_new_object}
 use Rattle.es_shapes.specs.Functions.{declared_function}
 use Rattle.es_shapes.specs.Syntax.{Function as Declared, Statements}
 use Rattle.es_eval.specs.Worlds.{World, with_more}

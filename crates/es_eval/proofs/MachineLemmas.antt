@@ -9,6 +9,7 @@ use Rattle.std.proofs.lemmas.List.Sums.{sum_by-cons}
 use Rattle.std.proofs.lemmas.Option.{none-some, same_Some}
 use Rattle.es_eval.specs.devices.OpenCalls.{Call, below_last, locals_of, next_item, with_item, with_value, without_item}
 use Rattle.es_eval.specs.devices.Slots.{IsSlotOf}
+use Rattle.es_frames.specs.Depth.{most_calls}
 use Rattle.es_frames.specs.Frames.{behind_first, with_value_in}
 use Rattle.es_reader.specs.Programs.{ToldProgram}
 use Rattle.es_values.specs.declared.values.Value.{Value}
@@ -246,7 +247,7 @@ machine_with_item m frames item kept live is =
       globals = kept.globals;
       frames = rw is (live_with_item m.heap m.frames item kept.frames live);
       some = subst (λ n. 1 ≤ n) (sym same) kept.some;
-      depth = subst (λ n. n ≤ 65) (sym same) kept.depth;
+      depth = subst (λ n. n ≤ most_calls + 1) (sym same) kept.depth;
       steps = kept.steps;
     }
 
@@ -259,7 +260,7 @@ machine_without_item m frames kept is =
       globals = kept.globals;
       frames = rw is (live_without_item m.heap m.frames kept.frames);
       some = subst (λ n. 1 ≤ n) (sym same) kept.some;
-      depth = subst (λ n. n ≤ 65) (sym same) kept.depth;
+      depth = subst (λ n. n ≤ most_calls + 1) (sym same) kept.depth;
       steps = kept.steps;
     }
 
@@ -451,7 +452,7 @@ module _ (m : MachineState) (frames : List Call) (place : ℕ) (value : Value)
         globals = kept.globals;
         frames = rw is (live-with_slot m.heap m.frames place value kept.frames live);
         some = subst (λ n. 1 ≤ n) (sym same) kept.some;
-        depth = subst (λ n. n ≤ 65) (sym same) kept.depth;
+        depth = subst (λ n. n ≤ most_calls + 1) (sym same) kept.depth;
         steps = kept.steps;
       }
 

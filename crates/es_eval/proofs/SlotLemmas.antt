@@ -11,6 +11,7 @@ use Rattle.es_values.specs.declared.values.Value.TheVariants.{Undefined}
 use Rattle.es_values.specs.Heaps.{IsLive}
 use Rattle.es_values.specs.Objects.{ObjectState}
 use Rattle.es_reader.specs.Programs.{ToldProgram}
+use Rattle.es_frames.specs.Depth.{most_calls}
 use Rattle.es_shapes.specs.declared.functions.Declared.{Declared}
 use Rattle.es_eval.specs.declared.works.Work.{Work}
 use Rattle.es_eval.specs.Calls.{bound}
@@ -156,7 +157,7 @@ module _ (m : MachineState) (frames : List Call) (declared : Declared) (names : 
   opened : frames ≡ open_call declared names this parameters arguments ∷ m.frames
   opened = is ∙ call_filled declared names this m.frames parameters arguments
 
-  pub machine_opened : IsMachine m → length m.frames ≤ 64 → IsLive m.heap this
+  pub machine_opened : IsMachine m → length m.frames ≤ most_calls → IsLive m.heap this
       → AreLive m.heap arguments → IsMachine (record m { frames = frames })
   machine_opened kept shallow live_this live = rw opened record {
     globals = kept.globals;

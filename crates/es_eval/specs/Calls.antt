@@ -12,14 +12,11 @@ use Rattle.es_builtins.specs.Functions.{construction_row, function_row}
 use Rattle.es_builtins.specs.Methods.{method_row}
 use Rattle.es_eval.specs.declared.outcomes.StopCause.TheVariants.{Depth, NotCallable, NotObject}
 use Rattle.es_eval.specs.Actions.{Action, answered, by_row, charged, stops}
+use Rattle.es_frames.specs.Depth.{most_calls}
 use Rattle.es_shapes.specs.Functions.{declared_function}
 use Rattle.es_shapes.specs.Syntax.{Function as Declared, Statements}
 use Rattle.es_eval.specs.Worlds.{World}
 use Rattle.es_eval.specs.Worlds.Run.{Calls}
-
--- how many calls may be open at once
-unfoldable pub most_calls : ℕ
-most_calls = 64
 
 -- the locals of a call: parameters with the arguments, which are Undefined where they are absent, and the
 -- other names with Undefined

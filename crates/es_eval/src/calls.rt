@@ -7,6 +7,7 @@ ghost use Rattle.es_reader.specs.Programs.{ToldProgram};
 ghost use Rattle.es_builtins.specs.Methods.{method_row};
 ghost use Rattle.es_values.specs.declared.values.Value.TheVariants.{Host as HostValue, Object as AnObject};
 ghost use Rattle.es_values.specs.Heaps.{IsLive};
+ghost use Rattle.es_frames.specs.Depth.{most_calls};
 ghost use Rattle.es_eval.specs.declared.works.Work.TheVariants.{Call as CallItem};
 ghost use Rattle.es_eval.specs.declared.works.CallWork.TheVariants.{Argument, IndexKey, MemberBase};
 ghost use Rattle.es_shapes.specs.Syntax.{Function};
@@ -28,6 +29,7 @@ use crate::values::LEVELS;
 use crate::works::{CallWork, Callee, Now, OpenCall, Work, discard};
 use bml_bytes::{NoMemory, Text};
 use es_builtins::Built;
+use es_frames::MOST_CALLS;
 use es_reader::Program;
 use es_shapes::{Code, Declared, Listing, Programs, declaration};
 use es_values::{HostRef, Value};
@@ -291,7 +293,7 @@ impl Machine {
     ) -> Result<Now, NoMemory>
         requires this { IsLive self.old.heap this }
         requires args { AreLive self.old.heap args.items }
-        requires depth { length self.old.frames ≤ 64 }
+        requires depth { length self.old.frames ≤ most_calls }
         ensures run { IfOk result (λ next. (function : Function)
             → declared_at programs.now declared ≡ Some function
             → GoesOn programs.now self.old (as_value (λ caller after.
@@ -444,9 +446,6 @@ impl Machine {
         }
     }
 }
-
-// How many calls may be open at once.
-const MOST_CALLS: u32 = 64;
 
 // What a built-in answered.
 fn answered(built: Built) -> Now

@@ -11,6 +11,7 @@ ghost use Rattle.es_values.specs.declared.values.Value.TheVariants.{Bool as Bool
 ghost use Rattle.es_values.specs.Charges.{conversion_charge, put_charge};
 ghost use Rattle.es_values.specs.Heaps.{IsLive, has_property, object_at, value_of};
 ghost use Rattle.bml_bytes.specs.Words.{is_same};
+ghost use Rattle.es_frames.specs.Depth.{most_calls};
 ghost use Rattle.es_eval.specs.declared.outcomes.Outcome.TheVariants.{Normal as AtEnd, Stopped};
 ghost use Rattle.es_eval.specs.declared.outcomes.StopCause.TheVariants.{Budget as OutOfSteps};
 ghost use Rattle.es_eval.specs.declared.works.Given.{Given};
@@ -417,7 +418,7 @@ impl Machine {
     ) -> Result<(), NoMemory>
         requires this { IsLive self.old.heap this }
         requires args { AreLive self.old.heap args.items }
-        requires depth { length self.old.frames ≤ 64 }
+        requires depth { length self.old.frames ≤ most_calls }
         ensures world { OnOk result ((programs : List ToldProgram)
             → names_at programs declared ≡ (told_function function.now).locals
             → world_of programs self.new ≡ record (world_of programs self.old) {

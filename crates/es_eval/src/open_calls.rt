@@ -3,6 +3,7 @@
 ghost use Rattle.std.specs.Prelude.{◌≡◌, ◌<◌, ◌≤◌, ◌∷◌, [], length, nat_lt, replicate, OnOk, OnErr};
 ghost use Rattle.std.specs.Option.{option_copied};
 ghost use Rattle.es_values.specs.declared.values.Value.TheVariants.{Undefined};
+ghost use Rattle.es_frames.specs.Depth.{most_calls};
 ghost use Rattle.es_eval.specs.devices.OpenCalls.{below_last, function_of, next_item, this_of, value_at, values_of, with_item, with_value, without_item};
 
 use crate::works::Work;
@@ -52,7 +53,7 @@ impl OpenCalls {
         locals: u32,
         this: Value,
     ) -> Result<(), NoMemory>
-        requires depth { length self.old ≤ 64 }
+        requires depth { length self.old ≤ most_calls }
         ensures ok { OnOk result (self.new ≡ record {
           function = function;
           this = this;

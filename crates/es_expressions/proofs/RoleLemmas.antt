@@ -2,7 +2,7 @@
 use Rattle.std.proofs.Common.{◌≡◌, ℕ, ◌≤◌, Bool, true, false, refl, arith}
 use Rattle.es_expressions.specs.Roles.{front, front_of, mark_front, joint, joint_of, mark_joint, unless_broken, strength, strength_of}
 use Rattle.es_lexer.specs.declared.punctuators.Punctuator.{Punctuator}
-use Rattle.es_lexer.specs.declared.punctuators.Punctuator.TheVariants.{CloseParenthesis, LogicalOr, LogicalAnd, BitOr, BitXor, BitAnd, Equal, NotEqual, Less, Greater, LessOrEqual, GreaterOrEqual, ShiftLeft, ShiftRight, UnsignedShiftRight, Plus, Minus, Times, Divide, Remainder}
+use Rattle.es_lexer.specs.declared.punctuators.Punctuator.TheVariants.{CloseParenthesis, LogicalOr, LogicalAnd, BitOr, BitXor, BitAnd, Equal, NotEqual, StrictEqual, StrictNotEqual, Less, Greater, LessOrEqual, GreaterOrEqual, ShiftLeft, ShiftRight, UnsignedShiftRight, Plus, Minus, Times, Divide, Remainder}
 use Rattle.es_expressions.specs.declared.lexemes.Symbol.TheVariants.{Mark}
 use Rattle.es_expressions.specs.declared.lexemes.Lexeme.{Lexeme}
 use Rattle.es_expressions.specs.declared.lexemes.Symbol.{Symbol}
@@ -25,6 +25,8 @@ mark-bounds BitXor n h = bounded 7 n (omega arith) (omega arith) h
 mark-bounds BitAnd n h = bounded 8 n (omega arith) (omega arith) h
 mark-bounds Equal n h = bounded 9 n (omega arith) (omega arith) h
 mark-bounds NotEqual n h = bounded 9 n (omega arith) (omega arith) h
+mark-bounds StrictEqual n h = bounded 9 n (omega arith) (omega arith) h
+mark-bounds StrictNotEqual n h = bounded 9 n (omega arith) (omega arith) h
 mark-bounds Less n h = bounded 10 n (omega arith) (omega arith) h
 mark-bounds Greater n h = bounded 10 n (omega arith) (omega arith) h
 mark-bounds LessOrEqual n h = bounded 10 n (omega arith) (omega arith) h

@@ -15,7 +15,7 @@ use Rattle.es_lexer.specs.declared.token_types.TokenKind.TheVariants.{Name as Na
 use Rattle.es_lexer.specs.declared.words.ReservedWord.{ReservedWord}
 use Rattle.es_lexer.specs.declared.words.ReservedWord.TheVariants.{Break, Case, Catch, Class, Const, Continue, Debugger, Default, Delete, Do, Else, Enum, Export, Extends, False, Finally, For, Function, If, Import, In, New, Null, Return, Super, Switch, This, Throw, True, Try, Typeof, Var, Void, While, With}
 use Rattle.es_lexer.specs.declared.punctuators.Punctuator.{Punctuator}
-use Rattle.es_lexer.specs.declared.punctuators.Punctuator.TheVariants.{OpenBrace, CloseBrace, OpenParenthesis, CloseParenthesis, OpenBracket, CloseBracket, Semicolon, Comma, Dot, Question, Colon, Complement, Not, Increment, Decrement, Assign, TimesAssign, DivideAssign, RemainderAssign, PlusAssign, MinusAssign, ShiftLeftAssign, ShiftRightAssign, UnsignedShiftRightAssign, AndAssign, XorAssign, OrAssign, LogicalOr, LogicalAnd, BitOr, BitXor, BitAnd, Equal, NotEqual, Less, Greater, LessOrEqual, GreaterOrEqual, ShiftLeft, ShiftRight, UnsignedShiftRight, Plus, Minus, Times, Divide, Remainder}
+use Rattle.es_lexer.specs.declared.punctuators.Punctuator.TheVariants.{OpenBrace, CloseBrace, OpenParenthesis, CloseParenthesis, OpenBracket, CloseBracket, Semicolon, Comma, Dot, Question, Colon, Complement, Not, Increment, Decrement, Assign, TimesAssign, DivideAssign, RemainderAssign, PlusAssign, MinusAssign, ShiftLeftAssign, ShiftRightAssign, UnsignedShiftRightAssign, AndAssign, XorAssign, OrAssign, LogicalOr, LogicalAnd, BitOr, BitXor, BitAnd, Equal, NotEqual, StrictEqual, StrictNotEqual, Less, Greater, LessOrEqual, GreaterOrEqual, ShiftLeft, ShiftRight, UnsignedShiftRight, Plus, Minus, Times, Divide, Remainder}
 use Rattle.es_expressions.specs.Sources.{IsSymbol, IsLexeme, AreLexemes}
 use Rattle.es_expressions.specs.declared.lexemes.Lexeme.{Lexeme}
 use Rattle.es_expressions.specs.declared.lexemes.Symbol.{Symbol}
@@ -40,7 +40,7 @@ words-apart : (a b : ReservedWord) → word_spelling a ≡ word_spelling b → a
 words-apart a b h = apart word_spelling all_words a b (found-word a) (found-word b) h
 
 abbrev all_marks : List Punctuator
-all_marks = OpenBrace ∷ CloseBrace ∷ OpenParenthesis ∷ CloseParenthesis ∷ OpenBracket ∷ CloseBracket ∷ Semicolon ∷ Comma ∷ Dot ∷ Question ∷ Colon ∷ Complement ∷ Not ∷ Increment ∷ Decrement ∷ Assign ∷ TimesAssign ∷ DivideAssign ∷ RemainderAssign ∷ PlusAssign ∷ MinusAssign ∷ ShiftLeftAssign ∷ ShiftRightAssign ∷ UnsignedShiftRightAssign ∷ AndAssign ∷ XorAssign ∷ OrAssign ∷ LogicalOr ∷ LogicalAnd ∷ BitOr ∷ BitXor ∷ BitAnd ∷ Equal ∷ NotEqual ∷ Less ∷ Greater ∷ LessOrEqual ∷ GreaterOrEqual ∷ ShiftLeft ∷ ShiftRight ∷ UnsignedShiftRight ∷ Plus ∷ Minus ∷ Times ∷ Divide ∷ Remainder ∷ []
+all_marks = OpenBrace ∷ CloseBrace ∷ OpenParenthesis ∷ CloseParenthesis ∷ OpenBracket ∷ CloseBracket ∷ Semicolon ∷ Comma ∷ Dot ∷ Question ∷ Colon ∷ Complement ∷ Not ∷ Increment ∷ Decrement ∷ Assign ∷ TimesAssign ∷ DivideAssign ∷ RemainderAssign ∷ PlusAssign ∷ MinusAssign ∷ ShiftLeftAssign ∷ ShiftRightAssign ∷ UnsignedShiftRightAssign ∷ AndAssign ∷ XorAssign ∷ OrAssign ∷ LogicalOr ∷ LogicalAnd ∷ BitOr ∷ BitXor ∷ BitAnd ∷ Equal ∷ NotEqual ∷ StrictEqual ∷ StrictNotEqual ∷ Less ∷ Greater ∷ LessOrEqual ∷ GreaterOrEqual ∷ ShiftLeft ∷ ShiftRight ∷ UnsignedShiftRight ∷ Plus ∷ Minus ∷ Times ∷ Divide ∷ Remainder ∷ []
 
 found-mark : (mark : Punctuator) → spelled_so mark_spelling all_marks (mark_spelling mark) ≡ Some mark
 found-mark OpenBrace = refl

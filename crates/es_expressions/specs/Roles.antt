@@ -1,10 +1,11 @@
 -- What tokens do in expressions (ECMA-262 second edition, 7.6 and section 11, in this profile): in front
--- of an operand and behind one. Binary operators have a strength, by rising order of 11.5 to 11.11.
+-- of an operand and behind one. Binary operators have a strength, by rising order of 11.5 to 11.11; `===`
+-- and `!==` stand beside `==` and `!=`, as in the third edition (11.9).
 use Rattle.std.specs.Prelude.{ℕ, Bool, true, false}
 use Rattle.es_lexer.specs.declared.words.ReservedWord.{ReservedWord}
 use Rattle.es_lexer.specs.declared.words.ReservedWord.TheVariants.{This, Null, True, False, New, Delete, Void, Typeof}
 use Rattle.es_lexer.specs.declared.punctuators.Punctuator.{Punctuator}
-use Rattle.es_lexer.specs.declared.punctuators.Punctuator.TheVariants.{OpenParenthesis, CloseParenthesis, OpenBracket, CloseBracket, Comma as CommaMark, Dot as DotMark, Question, Colon as ColonMark, Complement, Not, Increment, Decrement, Assign, TimesAssign, DivideAssign, RemainderAssign, PlusAssign, MinusAssign, ShiftLeftAssign, ShiftRightAssign, UnsignedShiftRightAssign, AndAssign, XorAssign, OrAssign, LogicalOr, LogicalAnd, BitOr, BitXor, BitAnd, Equal, NotEqual, Less, Greater, LessOrEqual, GreaterOrEqual, ShiftLeft, ShiftRight, UnsignedShiftRight, Plus, Minus, Times, Divide, Remainder}
+use Rattle.es_lexer.specs.declared.punctuators.Punctuator.TheVariants.{OpenParenthesis, CloseParenthesis, OpenBracket, CloseBracket, Comma as CommaMark, Dot as DotMark, Question, Colon as ColonMark, Complement, Not, Increment, Decrement, Assign, TimesAssign, DivideAssign, RemainderAssign, PlusAssign, MinusAssign, ShiftLeftAssign, ShiftRightAssign, UnsignedShiftRightAssign, AndAssign, XorAssign, OrAssign, LogicalOr, LogicalAnd, BitOr, BitXor, BitAnd, Equal, NotEqual, StrictEqual, StrictNotEqual, Less, Greater, LessOrEqual, GreaterOrEqual, ShiftLeft, ShiftRight, UnsignedShiftRight, Plus, Minus, Times, Divide, Remainder}
 use Rattle.es_expressions.specs.declared.lexemes.Symbol.{Symbol}
 use Rattle.es_expressions.specs.declared.lexemes.Symbol.TheVariants.{Name, Word, Mark, Number, Words}
 use Rattle.es_expressions.specs.declared.lexemes.Lexeme.{Lexeme}
@@ -55,6 +56,8 @@ mark_joint BitXor = Operator 7
 mark_joint BitAnd = Operator 8
 mark_joint Equal = Operator 9
 mark_joint NotEqual = Operator 9
+mark_joint StrictEqual = Operator 9
+mark_joint StrictNotEqual = Operator 9
 mark_joint Less = Operator 10
 mark_joint Greater = Operator 10
 mark_joint LessOrEqual = Operator 10

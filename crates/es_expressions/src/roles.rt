@@ -155,6 +155,7 @@ fn joint_of_mark(mark: Punctuator) -> Joint
         Punctuator::BitXor => Joint::Operator(7),
         Punctuator::BitAnd => Joint::Operator(8),
         Punctuator::Equal | Punctuator::NotEqual => Joint::Operator(9),
+        Punctuator::StrictEqual | Punctuator::StrictNotEqual => Joint::Operator(9),
         Punctuator::Less | Punctuator::Greater => Joint::Operator(10),
         Punctuator::LessOrEqual | Punctuator::GreaterOrEqual => Joint::Operator(10),
         Punctuator::ShiftLeft | Punctuator::ShiftRight => Joint::Operator(11),

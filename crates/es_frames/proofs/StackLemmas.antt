@@ -6,6 +6,7 @@ use Rattle.std.proofs.lemmas.List.{reverse-append, length-append, take_at, drop_
 use Rattle.std.proofs.lemmas.Option.{slice_get_within, get_or_from_slice_get, slice_get-get_or, none-some}
 use Rattle.es_values.specs.declared.values.Value.{Value}
 use Rattle.es_frames.specs.declared.control_stack.Mark.{Mark}
+use Rattle.es_frames.specs.Depth.{most_calls}
 use Rattle.es_frames.specs.Frames.{next_item, with_item, with_value, with_value_in, without_item}
 use Rattle.es_frames.specs.Nested.{AreNested, IsStack, IsWithin, frames_in}
 
@@ -44,7 +45,7 @@ frames-push marks mark values new items e f =
     let all = take_all mark.first_item items (omega (arith, f)) in
     rw (reverse-push marks mark, behind, front, none, all)
 
-pub stack-push : {W : Type 0} (marks marks' : List Mark) (mark : Mark) (values new values' : List Value) (items : List W) → IsStack marks values items → mark.first_value ≡ length values → mark.first_item ≡ length items → length marks ≤ 64 → marks' ≡ marks ++ mark ∷ [] → values' ≡ values ++ new → IsStack marks' values' items
+pub stack-push : {W : Type 0} (marks marks' : List Mark) (mark : Mark) (values new values' : List Value) (items : List W) → IsStack marks values items → mark.first_value ≡ length values → mark.first_item ≡ length items → length marks ≤ most_calls → marks' ≡ marks ++ mark ∷ [] → values' ≡ values ++ new → IsStack marks' values' items
 stack-push marks marks' mark values new values' items stack e f shallow pushed added =
     let longer : length values' ≡ length values + length new = ap length added ∙ length-append values new in
     let deeper : length marks' ≡ length marks + 1 = ap length pushed ∙ length-append marks (mark ∷ []) in

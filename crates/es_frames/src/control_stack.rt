@@ -3,12 +3,17 @@
 ghost use Rattle.std.specs.Prelude.{◌≡◌, ◌<◌, ◌≤◌, ◌^◌, ◌++◌, ◌∷◌, [], drop, length, nat_lt, replicate, take, OnOk, OnErr};
 ghost use Rattle.std.specs.Option.{option_copied};
 ghost use Rattle.es_values.specs.declared.values.Value.TheVariants.{Undefined};
+ghost use Rattle.es_frames.specs.Depth.{most_calls};
 ghost use Rattle.es_frames.specs.Frames.{below_last, new_frame, next_item, this_of, value_at, values_of, with_item, with_value, with_value_in, without_item};
 
 use bml_bytes::NoMemory;
 use es_values::Value;
 use std::alloc::Global;
 use std::marker::Model;
+
+/// How many calls of a script may be open at once, the program itself not among them. (This project's
+/// own.)
+pub const MOST_CALLS: u32 = 256;
 
 /// The frames of the calls that are open, with items of `W`. Contracts see the list of the frames, the last
 /// one in front, each with its `this`, its values, and its items, the one put last in front. (This
@@ -56,7 +61,7 @@ impl<W: Drop> Frames<W> {
 
     /// Adds a frame with this `this` and so many values, each of which is Undefined.
     pub fn push(&mut self, count: u32, this: Value) -> Result<(), NoMemory>
-        requires depth { length self.old ≤ 64 }
+        requires depth { length self.old ≤ most_calls }
         ensures ok { OnOk result (self.new ≡ new_frame count this ∷ self.old) }
         ensures err { OnErr result (self.new ≡ self.old) }
     {

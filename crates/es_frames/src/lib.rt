@@ -10,4 +10,4 @@
 
 mod control_stack;
 
-pub use crate::control_stack::Frames;
+pub use crate::control_stack::{Frames, MOST_CALLS};

@@ -20,7 +20,7 @@ use Rattle.es_lexer.specs.ScannedElements.{word_of, named, name_at, is_in_line, 
 use Rattle.es_lexer.specs.declared.words.ReservedWord.{ReservedWord}
 use Rattle.es_lexer.specs.declared.words.ReservedWord.TheVariants.{Break, Case, Catch, Class, Const, Continue, Debugger, Default, Delete, Do, Else, Enum, Export, Extends, False, Finally, For, Function, If, Import, In, New, Null, Return, Super, Switch, This, Throw, True, Try, Typeof, Var, Void, While, With}
 use Rattle.es_lexer.specs.declared.punctuators.Punctuator.{Punctuator}
-use Rattle.es_lexer.specs.declared.punctuators.Punctuator.TheVariants.{OpenBrace, CloseBrace, OpenParenthesis, CloseParenthesis, OpenBracket, CloseBracket, Semicolon, Comma, Dot, Question, Colon, Complement, Not, Increment, Decrement, Assign, TimesAssign, DivideAssign, RemainderAssign, PlusAssign, MinusAssign, ShiftLeftAssign, ShiftRightAssign, UnsignedShiftRightAssign, AndAssign, XorAssign, OrAssign, LogicalOr, LogicalAnd, BitOr, BitXor, BitAnd, Equal, NotEqual, Less, Greater, LessOrEqual, GreaterOrEqual, ShiftLeft, ShiftRight, UnsignedShiftRight, Plus, Minus, Times, Divide, Remainder}
+use Rattle.es_lexer.specs.declared.punctuators.Punctuator.TheVariants.{OpenBrace, CloseBrace, OpenParenthesis, CloseParenthesis, OpenBracket, CloseBracket, Semicolon, Comma, Dot, Question, Colon, Complement, Not, Increment, Decrement, Assign, TimesAssign, DivideAssign, RemainderAssign, PlusAssign, MinusAssign, ShiftLeftAssign, ShiftRightAssign, UnsignedShiftRightAssign, AndAssign, XorAssign, OrAssign, LogicalOr, LogicalAnd, BitOr, BitXor, BitAnd, Equal, NotEqual, StrictEqual, StrictNotEqual, Less, Greater, LessOrEqual, GreaterOrEqual, ShiftLeft, ShiftRight, UnsignedShiftRight, Plus, Minus, Times, Divide, Remainder}
 use Rattle.es_lexer.proofs.CodeLemmas.{both, both-back, some-same, mapped, passed, NoMarkIn, Ends, front-cons, front-run, behind-run, front-behind, front-all, stripped-append, stripped-is, up_to-first, up_to-is}
 use Rattle.es_lexer.proofs.WordLemmas.{word_of-word, word_of-is, word_of-none}
 use Rattle.es_lexer.proofs.MarkLemmas.{mark_at-is, mark_at-mark, mark_at-spelling, longer-is}
@@ -623,6 +623,8 @@ mark-finds BitXor rest = punctuation-finds BitXor rest refl
 mark-finds BitAnd rest = punctuation-finds BitAnd rest refl
 mark-finds Equal rest = punctuation-finds Equal rest refl
 mark-finds NotEqual rest = punctuation-finds NotEqual rest refl
+mark-finds StrictEqual rest = punctuation-finds StrictEqual rest refl
+mark-finds StrictNotEqual rest = punctuation-finds StrictNotEqual rest refl
 mark-finds Less rest = punctuation-finds Less rest refl
 mark-finds Greater rest = punctuation-finds Greater rest refl
 mark-finds LessOrEqual rest = punctuation-finds LessOrEqual rest refl
@@ -720,6 +722,8 @@ mark-long BitXor = omega arith
 mark-long BitAnd = omega arith
 mark-long Equal = omega arith
 mark-long NotEqual = omega arith
+mark-long StrictEqual = omega arith
+mark-long StrictNotEqual = omega arith
 mark-long Less = omega arith
 mark-long Greater = omega arith
 mark-long LessOrEqual = omega arith

@@ -7,7 +7,7 @@ use Rattle.es_lexer.specs.Spellings.{mark_spelling}
 use Rattle.es_lexer.specs.Munching.{made_by, made_by_either, mark_of, longer, grown, mark_at}
 use Rattle.es_lexer.proofs.CodeLemmas.{some-same}
 use Rattle.es_lexer.specs.declared.punctuators.Punctuator.{Punctuator}
-use Rattle.es_lexer.specs.declared.punctuators.Punctuator.TheVariants.{OpenBrace, CloseBrace, OpenParenthesis, CloseParenthesis, OpenBracket, CloseBracket, Semicolon, Comma, Dot, Question, Colon, Complement, Not, Increment, Decrement, Assign, TimesAssign, DivideAssign, RemainderAssign, PlusAssign, MinusAssign, ShiftLeftAssign, ShiftRightAssign, UnsignedShiftRightAssign, AndAssign, XorAssign, OrAssign, LogicalOr, LogicalAnd, BitOr, BitXor, BitAnd, Equal, NotEqual, Less, Greater, LessOrEqual, GreaterOrEqual, ShiftLeft, ShiftRight, UnsignedShiftRight, Plus, Minus, Times, Divide, Remainder}
+use Rattle.es_lexer.specs.declared.punctuators.Punctuator.TheVariants.{OpenBrace, CloseBrace, OpenParenthesis, CloseParenthesis, OpenBracket, CloseBracket, Semicolon, Comma, Dot, Question, Colon, Complement, Not, Increment, Decrement, Assign, TimesAssign, DivideAssign, RemainderAssign, PlusAssign, MinusAssign, ShiftLeftAssign, ShiftRightAssign, UnsignedShiftRightAssign, AndAssign, XorAssign, OrAssign, LogicalOr, LogicalAnd, BitOr, BitXor, BitAnd, Equal, NotEqual, StrictEqual, StrictNotEqual, Less, Greater, LessOrEqual, GreaterOrEqual, ShiftLeft, ShiftRight, UnsignedShiftRight, Plus, Minus, Times, Divide, Remainder}
 
 -- One code more
 
@@ -63,8 +63,10 @@ longer-is LogicalAnd more code e = absurd (cc e)
 longer-is BitOr more code e = either-is 61 124 code OrAssign LogicalOr more (mark_spelling BitOr) e refl refl
 longer-is BitXor more code e = made_by-is 61 code XorAssign more (mark_spelling BitXor) e refl
 longer-is BitAnd more code e = either-is 61 38 code AndAssign LogicalAnd more (mark_spelling BitAnd) e refl refl
-longer-is Equal more code e = absurd (cc e)
-longer-is NotEqual more code e = absurd (cc e)
+longer-is Equal more code e = made_by-is 61 code StrictEqual more (mark_spelling Equal) e refl
+longer-is NotEqual more code e = made_by-is 61 code StrictNotEqual more (mark_spelling NotEqual) e refl
+longer-is StrictEqual more code e = absurd (cc e)
+longer-is StrictNotEqual more code e = absurd (cc e)
 longer-is Less more code e = either-is 61 60 code LessOrEqual ShiftLeft more (mark_spelling Less) e refl refl
 longer-is Greater more code e = either-is 61 62 code GreaterOrEqual ShiftRight more (mark_spelling Greater) e refl refl
 longer-is LessOrEqual more code e = absurd (cc e)
@@ -177,6 +179,8 @@ mark_at-mark BitXor codes = refl
 mark_at-mark BitAnd codes = refl
 mark_at-mark Equal codes = refl
 mark_at-mark NotEqual codes = refl
+mark_at-mark StrictEqual codes = refl
+mark_at-mark StrictNotEqual codes = refl
 mark_at-mark Less codes = refl
 mark_at-mark Greater codes = refl
 mark_at-mark LessOrEqual codes = refl

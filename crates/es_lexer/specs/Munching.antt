@@ -3,7 +3,7 @@
 use Rattle.std.specs.Prelude.{ℕ, ◌==◌, if◌then◌else◌, List, [], ◌∷◌, Option, Some, None}
 use Rattle.es_lexer.specs.Scanning.{Found, found}
 use Rattle.es_lexer.specs.declared.punctuators.Punctuator.{Punctuator}
-use Rattle.es_lexer.specs.declared.punctuators.Punctuator.TheVariants.{OpenBrace, CloseBrace, OpenParenthesis, CloseParenthesis, OpenBracket, CloseBracket, Semicolon, Comma, Dot, Question, Colon, Complement, Not, Increment, Decrement, Assign, TimesAssign, DivideAssign, RemainderAssign, PlusAssign, MinusAssign, ShiftLeftAssign, ShiftRightAssign, UnsignedShiftRightAssign, AndAssign, XorAssign, OrAssign, LogicalOr, LogicalAnd, BitOr, BitXor, BitAnd, Equal, NotEqual, Less, Greater, LessOrEqual, GreaterOrEqual, ShiftLeft, ShiftRight, UnsignedShiftRight, Plus, Minus, Times, Divide, Remainder}
+use Rattle.es_lexer.specs.declared.punctuators.Punctuator.TheVariants.{OpenBrace, CloseBrace, OpenParenthesis, CloseParenthesis, OpenBracket, CloseBracket, Semicolon, Comma, Dot, Question, Colon, Complement, Not, Increment, Decrement, Assign, TimesAssign, DivideAssign, RemainderAssign, PlusAssign, MinusAssign, ShiftLeftAssign, ShiftRightAssign, UnsignedShiftRightAssign, AndAssign, XorAssign, OrAssign, LogicalOr, LogicalAnd, BitOr, BitXor, BitAnd, Equal, NotEqual, StrictEqual, StrictNotEqual, Less, Greater, LessOrEqual, GreaterOrEqual, ShiftLeft, ShiftRight, UnsignedShiftRight, Plus, Minus, Times, Divide, Remainder}
 
 -- one code, or one of two codes, makes a punctuator
 abbrev pub made_by : ℕ → ℕ → Punctuator → Option Punctuator
@@ -45,6 +45,8 @@ mark_of code =
 unfoldable pub longer : Punctuator → ℕ → Option Punctuator
 longer Not code = made_by 61 code NotEqual
 longer Assign code = made_by 61 code Equal
+longer Equal code = made_by 61 code StrictEqual
+longer NotEqual code = made_by 61 code StrictNotEqual
 longer BitOr code = made_by_either 61 OrAssign 124 LogicalOr code
 longer BitXor code = made_by 61 code XorAssign
 longer BitAnd code = made_by_either 61 AndAssign 38 LogicalAnd code

@@ -6,7 +6,8 @@ ghost use Rattle.es_lexer.specs.Munching.{mark_of as spec_mark_of, longer as spe
 ghost use Rattle.es_lexer.specs.Views.{found_mark};
 ghost use Rattle.es_lexer.specs.declared.punctuators.Punctuator.{Punctuator};
 
-/// A punctuator (ECMA-262 second edition, 7.6, in this profile).
+/// A punctuator (ECMA-262 second edition, 7.6, in this profile; `===` and `!==` are the third
+/// edition's, 7.7).
 #[derive(Clone, Copy, Debug, PartialEq, Eq)]
 pub enum Punctuator {
     /// `{`
@@ -77,6 +78,10 @@ pub enum Punctuator {
     Equal,
     /// `!=`
     NotEqual,
+    /// `===`
+    StrictEqual,
+    /// `!==`
+    StrictNotEqual,
     /// `<`
     Less,
     /// `>`
@@ -183,6 +188,8 @@ fn longer(mark: Punctuator, code: u16) -> Option<Punctuator>
     match mark {
         Punctuator::Not => made(code, b'=', Punctuator::NotEqual),
         Punctuator::Assign => made(code, b'=', Punctuator::Equal),
+        Punctuator::Equal => made(code, b'=', Punctuator::StrictEqual),
+        Punctuator::NotEqual => made(code, b'=', Punctuator::StrictNotEqual),
         Punctuator::BitOr => either(
             code,
             (b'=', Punctuator::OrAssign),

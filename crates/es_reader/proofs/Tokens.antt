@@ -4,7 +4,7 @@ use Rattle.std.proofs.lemmas.Bool.Decides.{nat_tests}
 use Rattle.es_lexer.specs.declared.words.ReservedWord.{ReservedWord}
 use Rattle.es_lexer.specs.declared.words.ReservedWord.TheVariants.{Break, Continue, Else, For as ForWord, Function as FunctionWord, If as IfWord, In, Return as ReturnWord, Var as VarWord, While as WhileWord, This, Null, True, False, New, Delete, Void, Typeof}
 use Rattle.es_lexer.specs.declared.punctuators.Punctuator.{Punctuator}
-use Rattle.es_lexer.specs.declared.punctuators.Punctuator.TheVariants.{OpenBrace, CloseBrace, OpenParenthesis, CloseParenthesis, CloseBracket, Semicolon, Comma, Colon, Plus, Minus, Complement, Not, Increment, Decrement, LogicalOr, LogicalAnd, BitOr, BitXor, BitAnd, Equal, NotEqual, Less, Greater, LessOrEqual, GreaterOrEqual, ShiftLeft, ShiftRight, UnsignedShiftRight, Times, Divide, Remainder}
+use Rattle.es_lexer.specs.declared.punctuators.Punctuator.TheVariants.{OpenBrace, CloseBrace, OpenParenthesis, CloseParenthesis, CloseBracket, Semicolon, Comma, Colon, Plus, Minus, Complement, Not, Increment, Decrement, LogicalOr, LogicalAnd, BitOr, BitXor, BitAnd, Equal, NotEqual, StrictEqual, StrictNotEqual, Less, Greater, LessOrEqual, GreaterOrEqual, ShiftLeft, ShiftRight, UnsignedShiftRight, Times, Divide, Remainder}
 use Rattle.es_expressions.specs.Roles.{front, front_of, word_front, mark_front, joint, joint_of, mark_joint, unless_broken, strength}
 use Rattle.es_expressions.specs.Phrases.{Phrase, spelled as spelled_expression}
 use Rattle.es_expressions.specs.Phrases.Phrase.{Index, Member, Binary}
@@ -35,6 +35,8 @@ mark-positive BitXor n h = positive 7 n (omega arith) h
 mark-positive BitAnd n h = positive 8 n (omega arith) h
 mark-positive Equal n h = positive 9 n (omega arith) h
 mark-positive NotEqual n h = positive 9 n (omega arith) h
+mark-positive StrictEqual n h = positive 9 n (omega arith) h
+mark-positive StrictNotEqual n h = positive 9 n (omega arith) h
 mark-positive Less n h = positive 10 n (omega arith) h
 mark-positive Greater n h = positive 10 n (omega arith) h
 mark-positive LessOrEqual n h = positive 10 n (omega arith) h

@@ -246,6 +246,8 @@ fn operator_of(mark: Punctuator) -> Operator
         Punctuator::GreaterOrEqual => Operator::GreaterOrEqual,
         Punctuator::Equal => Operator::Equal,
         Punctuator::NotEqual => Operator::NotEqual,
+        Punctuator::StrictEqual => Operator::StrictEqual,
+        Punctuator::StrictNotEqual => Operator::StrictNotEqual,
         Punctuator::BitAnd | Punctuator::AndAssign => Operator::BitAnd,
         Punctuator::BitXor | Punctuator::XorAssign => Operator::BitXor,
         Punctuator::BitOr | Punctuator::OrAssign => Operator::BitOr,

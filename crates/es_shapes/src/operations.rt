@@ -9,7 +9,7 @@ ghost use Rattle.es_values.specs.Operators.{is_equal, order_of};
 ghost use Rattle.es_values.specs.declared.numbers.Num.TheVariants.{Whole};
 ghost use Rattle.es_values.specs.declared.values.Value.TheVariants.{Bool as Boolean, Number};
 ghost use Rattle.es_shapes.specs.devices.Calculations.{calculated as spec_calculated, compared as spec_compared, ordered as spec_ordered};
-ghost use Rattle.es_shapes.specs.Operators.{is_greater as spec_is_greater, is_less as spec_is_less, numbers_charge, operated as spec_operated, operation_charge, or_same};
+ghost use Rattle.es_shapes.specs.Operators.{is_greater as spec_is_greater, is_less as spec_is_less, is_strictly_equal as spec_is_strictly_equal, numbers_charge, operated as spec_operated, operation_charge, or_same, strict_equality_charge};
 
 use crate::operators::Operator;
 use bml_bytes::NoMemory;
@@ -32,9 +32,26 @@ pub fn charge_operation(
     match operator {
         Operator::Plus => steps.charge_addition(heap, left, right),
         Operator::Equal | Operator::NotEqual => steps.charge_equality(heap, left, right),
+        Operator::StrictEqual | Operator::StrictNotEqual => {
+            charge_strict_equality(left, right, heap, steps)
+        }
         Operator::Less | Operator::Greater | Operator::LessOrEqual | Operator::GreaterOrEqual =>
             steps.charge_order(heap, left, right),
         _ => charge_conversions(left, right, heap, steps),
+    }
+}
+
+// Takes the steps of `===`: within one kind those of `==`, and otherwise none.
+fn charge_strict_equality(left: &Value, right: &Value, heap: &Heap, steps: &mut Budget) -> bool
+    requires left { IsLive heap.now left.now }
+    requires right { IsLive heap.now right.now }
+    ensures { Charges (strict_equality_charge heap.now left.now right.now) steps.old result
+        steps.new }
+{
+    if left.equality_in_kind(right).is_some() {
+        steps.charge_equality(heap, left, right)
+    } else {
+        steps.charge(0)
     }
 }
 
@@ -83,6 +100,8 @@ pub fn operated(
     match operator {
         Operator::Plus => heap.addition(left, right),
         Operator::Equal | Operator::NotEqual => compared(operator, left, right, heap),
+        Operator::StrictEqual => Ok(Value::Bool(is_strictly_equal(left, right))),
+        Operator::StrictNotEqual => Ok(Value::Bool(!is_strictly_equal(left, right))),
         Operator::Less | Operator::Greater | Operator::LessOrEqual | Operator::GreaterOrEqual =>
             ordered(operator, left, right, heap),
         _ => {
@@ -105,6 +124,8 @@ pub fn operated_wholes(operator: Operator, left: i32, right: i32) -> Value
         Operator::Plus => Value::Number(Num::Whole(left).add(Num::Whole(right))),
         Operator::Equal => Value::Bool(left == right),
         Operator::NotEqual => Value::Bool(left != right),
+        Operator::StrictEqual => Value::Bool(left == right),
+        Operator::StrictNotEqual => Value::Bool(left != right),
         Operator::Less => Value::Bool(left < right),
         Operator::Greater => Value::Bool(left > right),
         Operator::LessOrEqual => Value::Bool(left <= right),
@@ -125,6 +146,13 @@ fn compared(operator: Operator, left: &Value, right: &Value, heap: &Heap) -> Res
         Operator::Equal => same,
         _ => !same,
     }))
+}
+
+// What `===` gives.
+fn is_strictly_equal(left: &Value, right: &Value) -> bool
+    ensures { result ≡ spec_is_strictly_equal left.now right.now }
+{
+    left.equality_in_kind(right).unwrap_or(false)
 }
 
 // What an operator that compares numbers or texts gives; every other operator is `>=`.

@@ -1,6 +1,7 @@
 //! Operators of scripts.
 
-/// A binary operator that reads both of its operands (ECMA-262 second edition, 11.5 to 11.10).
+/// A binary operator that reads both of its operands (ECMA-262 second edition, 11.5 to 11.10; `===`
+/// and `!==` are the third edition's, 11.9.4 and 11.9.5).
 #[derive(Clone, Copy, Debug, PartialEq, Eq)]
 pub enum Operator {
     Times,
@@ -17,6 +18,8 @@ pub enum Operator {
     GreaterOrEqual,
     Equal,
     NotEqual,
+    StrictEqual,
+    StrictNotEqual,
     BitAnd,
     BitXor,
     BitOr,

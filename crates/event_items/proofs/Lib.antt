@@ -1,3 +1,4 @@
+pub mod DataEventLemmas
 pub mod DigitLemmas
 pub mod ItemLemmas
 pub mod MatchLemmas

@@ -24,6 +24,7 @@ kind-same kinds.EventMessageFired kinds.EventMessageFired e = refl
 kind-same kinds.ModuleUpdated kinds.ModuleUpdated e = refl
 kind-same kinds.ModuleLocked kinds.ModuleLocked e = refl
 kind-same kinds.DataButtonPressed kinds.DataButtonPressed e = refl
+kind-same kinds.DataEventChanged kinds.DataEventChanged e = refl
 kind-same its kind e = absurd (cc e)
 
 kind-itself : (kind : ItemKind) → is_same (kind_name kind) (kind_name kind) ≡ true
@@ -31,6 +32,7 @@ kind-itself kinds.EventMessageFired = refl
 kind-itself kinds.ModuleUpdated = refl
 kind-itself kinds.ModuleLocked = refl
 kind-itself kinds.DataButtonPressed = refl
+kind-itself kinds.DataEventChanged = refl
 
 kind-found : (test : ItemKind → Bool) (kind : ItemKind) (kinds : List ItemKind) → find test kinds ≡ Some kind → test kind ≡ true
 kind-found test kind [] e = absurd (cc e)
@@ -46,6 +48,7 @@ named kinds.EventMessageFired = refl
 named kinds.ModuleUpdated = refl
 named kinds.ModuleLocked = refl
 named kinds.DataButtonPressed = refl
+named kinds.DataEventChanged = refl
 
 pub kind-names : SameTexts → (name : List ℕ) (kind : ItemKind) → (kind_named name ≡ Some kind) ↔ (name ≡ kind_name kind)
 kind-names same name kind = (
@@ -53,11 +56,11 @@ kind-names same name kind = (
   λ e. ap kind_named e ∙ named kind,
 )
 
-kind-is : (kind : ItemKind) (its : Option ItemKind) → option_map_or (λ (i : ItemKind). is_same (kind_name i) (kind_name kind)) its false ≡ true → its ≡ Some kind
+pub kind-is : (kind : ItemKind) (its : Option ItemKind) → option_map_or (λ (i : ItemKind). is_same (kind_name i) (kind_name kind)) its false ≡ true → its ≡ Some kind
 kind-is kind None e = absurd (cc e)
 kind-is kind (Some its) e = ap (λ (i : ItemKind). Some i) (kind-same its kind e)
 
-kind-passes : (kind : ItemKind) (item : EventItem) → item.kind ≡ Some kind → is_kind kind item ≡ true
+pub kind-passes : (kind : ItemKind) (item : EventItem) → item.kind ≡ Some kind → is_kind kind item ≡ true
 kind-passes kind item e =
     ap (λ (its : Option ItemKind). option_map_or (λ (i : ItemKind). is_same (kind_name i) (kind_name kind)) its false) e ∙ kind-itself kind
 

@@ -10,30 +10,30 @@ use Rattle.event_items.specs.EventItems.{EventItem, event_items, is_event_item, 
 
 -- ---- elements of lists
 
-contains-behind : {X : Type 0} (x : X) (xs : List X) (y : X) → Contains xs y → Contains (x ∷ xs) y
+pub contains-behind : {X : Type 0} (x : X) (xs : List X) (y : X) → Contains xs y → Contains (x ∷ xs) y
 contains-behind x xs y (k, h, e) = (suc k, omega (arith, h), e)
 
-contains-here : {X : Type 0} (x : X) (xs : List X) → Contains (x ∷ xs) x
+pub contains-here : {X : Type 0} (x : X) (xs : List X) → Contains (x ∷ xs) x
 contains-here x xs = (0, omega arith, refl)
 
-contains-cases : {X : Type 0} (x : X) (xs : List X) (y : X) → Contains (x ∷ xs) y → (x ≡ y) ⊎ Contains xs y
+pub contains-cases : {X : Type 0} (x : X) (xs : List X) (y : X) → Contains (x ∷ xs) y → (x ≡ y) ⊎ Contains xs y
 contains-cases x xs y (zero, h, e) = inl e
 contains-cases x xs y (suc k, h, e) = inr (k, omega (arith, h), e)
 
-contains-none : {X : Type 0} (y : X) → Contains [] y → ⊥
+pub contains-none : {X : Type 0} (y : X) → Contains [] y → ⊥
 contains-none y (k, h, e) = omega (arith, h)
 
 -- what a number in a list of numbers is the number of
-record IsNumbered (items : List EventItem) (node : ℕ) : Type 0 where
-  item : EventItem
-  inside : Contains items item
-  is : item.node ≡ node
+pub record IsNumbered (items : List EventItem) (node : ℕ) : Type 0 where
+  pub item : EventItem
+  pub inside : Contains items item
+  pub is : item.node ≡ node
 
 numbered-behind : (first : EventItem) (items : List EventItem) (node : ℕ) → IsNumbered items node → IsNumbered (first ∷ items) node
 numbered-behind first items node rest =
     record { item = rest.item; inside = contains-behind first items rest.item rest.inside; is = rest.is }
 
-numbered : (items : List EventItem) (node : ℕ) → Contains (map (λ (item : EventItem). item.node) items) node → IsNumbered items node
+pub numbered : (items : List EventItem) (node : ℕ) → Contains (map (λ (item : EventItem). item.node) items) node → IsNumbered items node
 numbered [] node c = absurd (contains-none node c)
 numbered (item ∷ items) node c =
     elim (contains-cases item.node (map (λ (i : EventItem). i.node) items) node c) [

@@ -50,7 +50,7 @@ is_component NoComponent tag = false
 
 -- ---- an item
 
--- The node; its kind, and none where its type is none of the four; what it asks of a message; and the component and the
+-- The node; its kind, and none where its type is none of the five; what it asks of a message; and the component and the
 -- module that its `module_ref` names, none where that is no path.
 pub record EventItem : Type 0 where
   pub node : ℕ

@@ -1,6 +1,6 @@
 -- Which items of a document are subscribed, and which of them fire (after beitem of BML, ARIB STD-B24 volume 2; that a
 -- message that is repeated doesn't fire again is this project's own rule).
-use Rattle.std.specs.Prelude.{ℕ, ◌&&◌, Bool, true, false, List, [], codes, map, slice_get, slice_set, unwrap_or}
+use Rattle.std.specs.Prelude.{ℕ, ◌&&◌, Bool, true, false, List, [], codes, filter, map, take, slice_get, slice_set, unwrap_or}
 use Rattle.std.specs.Option.{option_map_or}
 use Rattle.bml_bytes.specs.Words.{is_same}
 use Rattle.dom_tree.specs.Items.{Item}
@@ -66,3 +66,17 @@ fires_for_module kind component number s item =
 -- a subscribed item fires for the data button
 abbrev pub fires_for_button : ItemsState → EventItem → Bool
 fires_for_button s item = is_subscribed item.node s && is_kind kinds.DataButtonPressed item
+
+-- a subscribed item fires for a data event
+abbrev pub fires_for_data_event : ItemsState → EventItem → Bool
+fires_for_data_event s item = is_subscribed item.node s && is_kind kinds.DataEventChanged item
+
+-- so many items fire for a data event at most
+unfoldable pub most_data_event_items : ℕ
+most_data_event_items = 256
+
+-- the nodes of those that fire for a data event now: the first ones in document order
+abbrev pub data_event_items : ItemsState → List ℕ
+data_event_items s =
+    take most_data_event_items
+    (map (λ item. item.node) (filter (fires_for_data_event s) s.items))

@@ -1,7 +1,7 @@
 //! What the definitions of this crate say together. A law's contract is what it is for, and it does
 //! nothing when it runs.
 
-ghost use Rattle.std.specs.Prelude.{◌≡◌, ◌≢◌, ◌↔◌, ◌<◌, ◌&&◌, ◌++◌, ◌∷◌, ℕ, Bool, [], List, Some, true, false, Contains, codes, length, map, slice_get};
+ghost use Rattle.std.specs.Prelude.{◌≡◌, ◌≢◌, ◌↔◌, ◌<◌, ◌≤◌, ◌&&◌, ◌++◌, ◌∷◌, ℕ, Bool, [], List, Some, true, false, Contains, codes, filter, length, map, slice_get};
 ghost use Rattle.std.specs.List.Sorted.{IsStrictlyIncreasing};
 ghost use Rattle.dom_tree.specs.Items.{Item, tag_of};
 ghost use Rattle.event_messages.specs.declared.messages.Message.{Message};
@@ -10,7 +10,7 @@ ghost use Rattle.event_messages.specs.Kept.{StandsFor};
 ghost use Rattle.multipart_entities.specs.declared.paths.Path.{Path};
 ghost use Rattle.event_queue.specs.ItemKinds.{kind_name, kind_named};
 ghost use Rattle.event_items.specs.EventItems.{EventItem, any_id, event_items, item_of, matches_message, matches_module};
-ghost use Rattle.event_items.specs.Subscriptions.{ItemsState, fires_for_message, first_items, is_subscribed, with_firing, with_subscribed};
+ghost use Rattle.event_items.specs.Subscriptions.{ItemsState, data_event_items, fires_for_data_event, fires_for_message, first_items, is_subscribed, most_data_event_items, with_firing, with_subscribed};
 
 use crate::asked::{Asked, AskedComponent};
 use bml_bytes::law_of_same_texts;
@@ -101,6 +101,20 @@ pub fn law_of_module_items()
     ensures { (kind : ItemKind) (component number : ℕ) (item : EventItem)
         → (matches_module kind component number item ≡ true)
         ↔ ((item.kind ≡ Some kind) × (item.about ≡ Some (component, number))) }
+{}
+
+/// At most 256 items fire for a data event. Each that does is a subscribed item of the kind
+/// DataEventChanged, and they stand in document order. Where there are no more of these than 256, each
+/// of them fires.
+pub fn law_of_data_event_items()
+    ensures few { (s : ItemsState) → length (data_event_items s) ≤ most_data_event_items }
+    ensures own { (s : ItemsState) (node : ℕ) → Contains (data_event_items s) node
+        → (item : EventItem) × Contains s.items item × (item.node ≡ node)
+        × (item.kind ≡ Some ItemKind.DataEventChanged) × (is_subscribed node s ≡ true) }
+    ensures all { (s : ItemsState) (item : EventItem)
+        → length (filter (fires_for_data_event s) s.items) ≤ most_data_event_items
+        → Contains s.items item → item.kind ≡ Some ItemKind.DataEventChanged
+        → is_subscribed item.node s ≡ true → Contains (data_event_items s) item.node }
 {}
 
 /// What is written of a node's subscription is read back, and other nodes keep theirs. To write

@@ -15,7 +15,8 @@ mod subscriptions;
 
 pub use crate::items::{EventItem, event_items, is_event_item};
 pub use crate::laws::{
-    law_of_any_id, law_of_bad_numbers, law_of_event_items, law_of_item_events, law_of_kinds,
-    law_of_message_items, law_of_module_items, law_of_subscriptions,
+    law_of_any_id, law_of_bad_numbers, law_of_data_event_items, law_of_event_items,
+    law_of_item_events, law_of_kinds, law_of_message_items, law_of_module_items,
+    law_of_subscriptions,
 };
 pub use crate::subscriptions::Items;

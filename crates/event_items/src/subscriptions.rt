@@ -1,8 +1,8 @@
 //! The items of a document with which of them are subscribed, and what they fired for.
 
-ghost use Rattle.std.specs.Prelude.{◌≡◌, ◌<◌, ◌++◌, IfOk, OnErr, OnOk, codes, false, length, map, option_copied, slice_get, slice_set};
+ghost use Rattle.std.specs.Prelude.{◌≡◌, ◌<◌, ◌≤◌, ◌++◌, ◌∷◌, [], IfOk, OnErr, OnOk, codes, false, if◌then◌else◌, length, map, take, option_copied, slice_get, slice_set};
 ghost use Rattle.std.specs.Option.{option_map_or};
-ghost use Rattle.event_items.specs.Subscriptions.{first_items, fires_for_message, fires_for_button, is_subscribed, fires_for_module, starts_subscribed as spec_starts_subscribed, with_firing, with_subscribed};
+ghost use Rattle.event_items.specs.Subscriptions.{data_event_items, first_items, fires_for_data_event, fires_for_message, fires_for_button, is_subscribed, fires_for_module, most_data_event_items, starts_subscribed as spec_starts_subscribed, with_firing, with_subscribed};
 
 use crate::items::{EventItem, event_items, is_event_item};
 use bml_bytes::{NoMemory, Text};
@@ -12,6 +12,9 @@ use event_queue::ItemKind;
 use multipart_entities::Path;
 use std::alloc::Global;
 use std::marker::Model;
+
+/// So many items fire for a data event at most; this project's own limit.
+const MOST_DATA_EVENT_ITEMS: usize = 256;
 
 /// The event items of a document as they stood in it when it was read, with which of them are
 /// subscribed, and what they fired for. Contracts see it as `ItemsState`.
@@ -119,6 +122,46 @@ impl Items {
         ensures { result ≡ fires_for_button self.now item.now }
     {
         self.is_subscribed(item.node()) && item.is_kind(ItemKind::DataButtonPressed)
+    }
+
+    /// Whether an item fires for a data event.
+    pub fn fires_for_data_event(&self, item: &EventItem) -> bool
+        ensures { result ≡ fires_for_data_event self.now item.now }
+    {
+        self.is_subscribed(item.node()) && item.is_kind(ItemKind::DataEventChanged)
+    }
+
+    /// The items that fire for a data event now: the first 256 in document order.
+    pub fn data_event_items(&self, alloc: Global) -> Result<Vec<NodeId>, NoMemory>
+        ensures { IfOk result (λ nodes. map (λ node. node.0) nodes.items
+            ≡ data_event_items self.now) }
+    {
+        let mut nodes = Vec::new(alloc);
+        'items: for item in &self.items {
+            self.push_data_event_item(item, &mut nodes)?;
+        }
+        Ok(nodes)
+    }
+
+    // Appends the node of an item that fires for a data event, where there are fewer than 256.
+    fn push_data_event_item(
+        &self,
+        item: &EventItem,
+        nodes: &mut Vec<NodeId>,
+    ) -> Result<(), NoMemory>
+        requires { length nodes.old.items ≤ most_data_event_items }
+        ensures { OnOk result (map (λ node. node.0) nodes.new.items ≡ take most_data_event_items
+            (map (λ node. node.0) nodes.old.items
+            ++ (if fires_for_data_event self.now item.now then item.now.node ∷ [] else []))) }
+    {
+        if nodes.len() == MOST_DATA_EVENT_ITEMS {
+            return Ok(());
+        }
+        if !self.fires_for_data_event(item) {
+            return Ok(());
+        }
+        nodes.push(item.node())?;
+        Ok(())
     }
 }
 

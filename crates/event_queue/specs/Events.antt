@@ -2,7 +2,7 @@
 -- `timer` are this project's own).
 use Rattle.std.specs.Prelude.{ℕ, List, Option, Some, None, codes}
 use Rattle.event_queue.specs.declared.events.Event.{Event}
-use Rattle.event_queue.specs.declared.events.Event.TheVariants.{Load, Unload, Focus, Blur, Click, KeyDown, KeyUp, Default, Timer, Fired, Updated, Locked, Button}
+use Rattle.event_queue.specs.declared.events.Event.TheVariants.{Load, Unload, Focus, Blur, Click, KeyDown, KeyUp, Default, Timer, Fired, Updated, Locked, Button, DataEvent}
 use Rattle.event_queue.specs.declared.item_kinds.ItemKind.TheVariants as kinds
 use Rattle.event_queue.specs.ItemKinds.{kind_name}
 
@@ -21,6 +21,7 @@ name_of (Fired item component message) = kind_name kinds.EventMessageFired
 name_of (Updated item status) = kind_name kinds.ModuleUpdated
 name_of (Locked item status) = kind_name kinds.ModuleLocked
 name_of (Button item) = kind_name kinds.DataButtonPressed
+name_of (DataEvent item) = kind_name kinds.DataEventChanged
 
 -- the node that the event names
 abbrev pub target_of : Event → Option ℕ
@@ -31,4 +32,5 @@ target_of (Fired item component message) = Some item
 target_of (Updated item status) = Some item
 target_of (Locked item status) = Some item
 target_of (Button item) = Some item
+target_of (DataEvent item) = Some item
 target_of _ = None

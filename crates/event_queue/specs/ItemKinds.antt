@@ -10,11 +10,12 @@ kind_name kinds.EventMessageFired = codes "EventMessageFired"
 kind_name kinds.ModuleUpdated = codes "ModuleUpdated"
 kind_name kinds.ModuleLocked = codes "ModuleLocked"
 kind_name kinds.DataButtonPressed = codes "DataButtonPressed"
+kind_name kinds.DataEventChanged = codes "DataEventChanged"
 
 abbrev pub all_kinds : List ItemKind
 all_kinds =
     kinds.EventMessageFired ∷ kinds.ModuleUpdated ∷ kinds.ModuleLocked
-    ∷ kinds.DataButtonPressed ∷ []
+    ∷ kinds.DataButtonPressed ∷ kinds.DataEventChanged ∷ []
 
 -- names compare by case; an item of any other type never fires
 abbrev pub kind_named : List ℕ → Option ItemKind

@@ -13,8 +13,8 @@ pub type NodeNo = u32;
 /// clicked, what was done with a key, by its number (after the intrinsic events of BML, ARIB
 /// STD-B24 volume 2), that a timer fired, by its number, or what an event item is about, by the node
 /// of the item: an event message of a component, a change of a module, by its status, a module whose
-/// lock got its bytes, or the data button. `Default` is the default action of a key. `Unload` is
-/// never posted; it is the current event of the handler of that name alone.
+/// lock got its bytes, the data button, or a data event. `Default` is the default action of a key.
+/// `Unload` and `DataEvent` are never posted: their handlers run as their document ends.
 #[derive(Drop)]
 pub enum Event {
     Load,
@@ -40,6 +40,7 @@ pub enum Event {
         status: u8,
     },
     Button(NodeNo),
+    DataEvent(NodeNo),
 }
 
 impl Event {
@@ -61,6 +62,7 @@ impl Event {
             Event::Updated { .. } => ItemKind::ModuleUpdated.name(),
             Event::Locked { .. } => ItemKind::ModuleLocked.name(),
             Event::Button(_) => ItemKind::DataButtonPressed.name(),
+            Event::DataEvent(_) => ItemKind::DataEventChanged.name(),
         }
     }
 
@@ -74,7 +76,8 @@ impl Event {
             Event::Fired { item, .. }
             | Event::Updated { item, .. }
             | Event::Locked { item, .. }
-            | Event::Button(item) => Some(*item),
+            | Event::Button(item)
+            | Event::DataEvent(item) => Some(*item),
             _ => None,
         }
     }

@@ -6,18 +6,19 @@ ghost use Rattle.event_queue.specs.ItemKinds.{all_kinds, kind_name, kind_named};
 use bml_bytes::Text;
 
 /// What an item fires for: an event message, a module that came, changed or went, one that is locked,
-/// or the data button (after beitem of BML, ARIB STD-B24 volume 2).
+/// the data button, or a data event (after beitem of BML, ARIB STD-B24 volume 2).
 #[derive(Clone, Copy, Debug, PartialEq, Eq)]
 pub enum ItemKind {
     EventMessageFired,
     ModuleUpdated,
     ModuleLocked,
     DataButtonPressed,
+    DataEventChanged,
 }
 
 impl ItemKind {
     /// All of them.
-    pub fn all() -> [ItemKind; 4]
+    pub fn all() -> [ItemKind; 5]
         ensures { result ≡ all_kinds }
     {
         [
@@ -25,6 +26,7 @@ impl ItemKind {
             ItemKind::ModuleUpdated,
             ItemKind::ModuleLocked,
             ItemKind::DataButtonPressed,
+            ItemKind::DataEventChanged,
         ]
     }
 
@@ -37,6 +39,7 @@ impl ItemKind {
             ItemKind::ModuleUpdated => "ModuleUpdated",
             ItemKind::ModuleLocked => "ModuleLocked",
             ItemKind::DataButtonPressed => "DataButtonPressed",
+            ItemKind::DataEventChanged => "DataEventChanged",
         }
     }
 

@@ -11,6 +11,7 @@ use Rattle.psi_tables.specs.declared.components.Component.{Component}
 use Rattle.carousel_blocks.specs.declared.changes.Change.{Change}
 use Rattle.multipart_entities.specs.declared.paths.Path.{Path}
 use Rattle.module_store.specs.Copies.{KeptModule}
+use Rattle.module_store.specs.DataEvents.{data_event_by}
 use Rattle.module_store.specs.Resources.{Presence, presence}
 use Rattle.module_store.specs.Resources.Presence.{Absent, Announced, Held}
 use Rattle.module_store.specs.Staying.{is_delivered}
@@ -18,7 +19,7 @@ use Rattle.module_store.specs.Store.{Stored, deliveries_of, last_place, last_pla
 use Rattle.module_store.specs.Store as store
 use Rattle.module_locks.specs.declared.answers.LockAnswer.{LockAnswer}
 use Rattle.module_locks.specs.Histories.{Fed, Happening, Locked, Mapped, Unlocked, behind_all, modules_behind}
-use Rattle.module_locks.specs.Locks.{Lock, Modules, at_start, delivers, is_lock_on, kept_now, kept_of, kept_on, lock_answer, lock_behind, locks_behind, look_up, seen, seen_number, with_lock, with_map, with_section, without_lock}
+use Rattle.module_locks.specs.Locks.{Lock, Modules, at_start, delivers, is_lock_on, kept_now, kept_of, kept_on, lock_answer, lock_behind, locks_at, locks_behind, locks_left, look_up, seen, seen_number, with_lock, with_map, with_section, without_lock}
 use Rattle.module_locks.proofs.KeptLaws.{behind_stays, kept_locked, kept_unlocked, locked_holds, with_bytes}
 use Rattle.module_locks.proofs.ListLaws.{none_left}
 use Rattle.module_locks.proofs.SeenLaws.{held_number, look_seen, number_in}
@@ -251,6 +252,11 @@ module _ (undelivered : IsUndelivered) (modules : Modules) (table : Table) (told
       by_test again true on h = own on ((eqb lock.component component && not (is_some lock.kept)) && delivers lock.«module» changes) refl h
       by_test again false on h = again h
 
+  -- a data event leaves none
+  left_kept : (event : Option Change) (its_component number : ℕ) (kept : KeptModule) → kept_on (locks_left event modules.locks) its_component number ≡ Some kept → kept_on modules.locks its_component number ≡ Some kept
+  left_kept None its_component number kept e = e
+  left_kept (Some event) its_component number kept e = absurd cc
+
   section_told : IsTold (with_section component section modules) (table ++ brought component section modules)
   section_told = record {
     long = length-append table (brought component section modules)
@@ -258,12 +264,12 @@ module _ (undelivered : IsUndelivered) (modules : Modules) (table : Table) (told
         ∙ ap (λ n. n + length (of_component component numbers)) told.long
         ∙ sym (length-append modules.stored.deliveries (of_component component numbers));
     held = section_held;
-    locked = λ its_component number low kept e. by_lock its_component number low kept (section_kept its_component number kept modules.locks e);
+    locked = λ its_component number low kept e. by_lock its_component number low kept (section_kept its_component number kept (locks_at component section modules) e);
   }
     where
-      by_lock : (its_component number : ℕ) → number < 65536 → (kept : KeptModule) → (kept_on modules.locks its_component number ≡ Some kept) ⊎ (kept_now now its_component number ≡ Some kept)
+      by_lock : (its_component number : ℕ) → number < 65536 → (kept : KeptModule) → (kept_on (locks_at component section modules) its_component number ≡ Some kept) ⊎ (kept_now now its_component number ≡ Some kept)
           → IsNoted (table ++ brought component section modules) kept
-      by_lock its_component number low kept (inl old) = still_noted table (brought component section modules) kept (told.locked its_component number low kept old)
+      by_lock its_component number low kept (inl old) = still_noted table (brought component section modules) kept (told.locked its_component number low kept (left_kept (data_event_by component section modules.stored) its_component number kept old))
       by_lock its_component number low kept (inr new) = section_held its_component number low kept new
 
 -- ---- another component map

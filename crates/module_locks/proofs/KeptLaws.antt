@@ -1,14 +1,17 @@
 -- What a lock keeps stays as it is.
 use Rattle.std.proofs.Common.{◌≡◌, ◌≢◌, ◌∙◌, ℕ, ◌≤◌, Bool, true, false, cond, eqb, List, [], ◌∷◌, ◌++◌, length, map, Option, Some, None, refl, sym, ap, subst, inl, inr, arith}
-use Rattle.std.specs.Prelude.{◌⊎◌, ◌&&◌, not, find, filter, is_some, option_and_then}
+use Rattle.std.specs.Prelude.{All, ◌⊎◌, ◌&&◌, not, find, filter, is_some, option_and_then, option_to_list}
 use Rattle.std.specs.Option.{option_map_or, option_or}
 use Rattle.std.proofs.lemmas.Bool.{and_parts, eqb-true, ltb-true}
 use Rattle.std.proofs.lemmas.Bool.Decides.{eqb_tells}
 use Rattle.std.proofs.lemmas.List.{length-append, length-map}
+use Rattle.std.proofs.lemmas.List.Elements.{All-cons, All-map}
 use Rattle.std.proofs.lemmas.List.Folds.{find-append}
 use Rattle.carousel_blocks.specs.declared.changes.Change.{Change}
 use Rattle.multipart_entities.specs.declared.paths.Path.{Path}
+use Rattle.carousel_blocks.specs.DataEvents.{data_event, data_event_between}
 use Rattle.module_store.specs.Copies.{KeptModule}
+use Rattle.module_store.specs.DataEvents.{data_event_by, event_id}
 use Rattle.module_store.specs.Resources.{Found, Presence, Resource, look, start_component}
 use Rattle.module_store.specs.Resources.Presence.{Absent, Announced, Held}
 use Rattle.module_store.specs.Resources as resources
@@ -17,7 +20,7 @@ use Rattle.module_store.specs.Store.{Stored}
 use Rattle.module_store.specs.Store as store
 use Rattle.module_locks.specs.declared.answers.LockAnswer.{LockAnswer}
 use Rattle.module_locks.specs.declared.answers.LockAnswer.TheVariants as answers
-use Rattle.module_locks.specs.Locks.{Lock, Modules, answer_at, answer_by, change_told, changes_by, delivers, has_place, is_delivery, is_lock_on, kept_now, kept_on, lock_answer, lock_behind, lock_on, lock_with, locks_behind, locks_with, look_kept, look_up, most_locks, start_path, with_lock, with_section}
+use Rattle.module_locks.specs.Locks.{Lock, Modules, answer_at, answer_by, change_told, changes_by, delivers, has_place, is_delivery, is_lock_on, kept_now, kept_on, lock_answer, lock_behind, lock_on, lock_with, locks_at, locks_behind, locks_left, locks_with, look_kept, look_up, module_changes_by, most_locks, start_path, with_lock, with_section}
 use Rattle.module_locks.proofs.ListLaws.{any-made, any-weaker, found_left}
 use Rattle.module_locks.proofs.HeldLaws.{held_look}
 
@@ -91,12 +94,24 @@ behind_keeps : (component : ℕ) (changes : List Change) (now : Stored) → Keep
 behind_keeps component changes now lock e =
     unchanged (eqb lock.component component) (delivers lock.«module» changes) lock.kept (with_bytes (kept_now now component lock.«module») lock) lock e
 
-pub kept_behind : (modules : Modules) (component : ℕ) (section : List ℕ) (its_component number : ℕ) (kept : KeptModule) → kept_on modules.locks its_component number ≡ Some kept
-    → kept_on (with_section component section modules).locks its_component number ≡ Some kept
-kept_behind modules component section its_component number kept e =
+-- where it is no data event, the locks are left
+left_all : (modules : Modules) (component : ℕ) (section : List ℕ) → data_event_by component section modules.stored ≡ None → locks_at component section modules ≡ modules.locks
+left_all modules component section none = ap (λ event. locks_left event modules.locks) none
+
+pub kept_behind : (modules : Modules) (component : ℕ) (section : List ℕ) (its_component number : ℕ) (kept : KeptModule) → data_event_by component section modules.stored ≡ None
+    → kept_on modules.locks its_component number ≡ Some kept → kept_on (with_section component section modules).locks its_component number ≡ Some kept
+kept_behind modules component section its_component number kept none e =
     let changes = store.changes_by component section modules.stored in
     let now = store.with_section component section modules.stored in
-    kept_stays (lock_behind component changes now) (behind_stays component changes now) (behind_keeps component changes now) its_component number kept modules.locks e
+    ap (λ l. kept_on (map (lock_behind component changes now) l) its_component number) (left_all modules component section none)
+    ∙ kept_stays (lock_behind component changes now) (behind_stays component changes now) (behind_keeps component changes now) its_component number kept modules.locks e
+
+-- then the changes tell of the modules that the carousels' changes tell of
+told_same : (modules : Modules) (component : ℕ) (section : List ℕ) (number : ℕ) → data_event_by component section modules.stored ≡ None
+    → tells_of number (changes_by component section modules) ≡ tells_of number (store.changes_by component section modules.stored)
+told_same modules component section number none =
+    ap (λ event. tells_of number (option_to_list event ++ module_changes_by component section modules)) none
+    ∙ any-made (λ (change : Change). eqb change.«module» number) (change_told component (locks_at component section modules)) (store.changes_by component section modules.stored)
 
 -- a module that is delivered is told
 delivered_told : (number : ℕ) (changes : List Change) → delivers number changes ≡ true → tells_of number changes ≡ true
@@ -105,19 +120,18 @@ delivered_told number changes e =
     (λ change h. (and_parts (eqb change.«module» number) (is_delivery change) h).0) changes e
 
 -- a module of which no change is told isn't kept where it wasn't
-none_behind : (modules : Modules) (component : ℕ) (section : List ℕ) (its_component number : ℕ) → (component ≡ its_component → tells_of number (changes_by component section modules) ≡ false)
+none_behind : (modules : Modules) (component : ℕ) (section : List ℕ) (its_component number : ℕ) → data_event_by component section modules.stored ≡ None
+    → (component ≡ its_component → tells_of number (changes_by component section modules) ≡ false)
     → kept_on modules.locks its_component number ≡ None → kept_on (with_section component section modules).locks its_component number ≡ None
-none_behind modules component section its_component number quiet e =
-    none_stays (lock_behind component changes now) (behind_stays component changes now) its_component number still modules.locks e
+none_behind modules component section its_component number no_event quiet e =
+    ap (λ l. kept_on (map (lock_behind component changes now) l) its_component number) (left_all modules component section no_event)
+    ∙ none_stays (lock_behind component changes now) (behind_stays component changes now) its_component number still modules.locks e
   where
     changes : List Change
     changes = store.changes_by component section modules.stored
 
     now : Stored
     now = store.with_section component section modules.stored
-
-    told_same : tells_of number (changes_by component section modules) ≡ tells_of number changes
-    told_same = any-made (λ (change : Change). eqb change.«module» number) (change_told component modules.locks) changes
 
     still : (lock : Lock) → is_lock_on its_component number lock ≡ true → lock.kept ≡ None → (lock_behind component changes now lock).kept ≡ None
     still lock on none =
@@ -133,57 +147,92 @@ none_behind modules component section its_component number quiet e =
         by_tests (inl same) true is =
             let told = delivered_told lock.«module» changes is in
             let here = ap (λ n. tells_of n changes) (sym (eqb-true lock.«module» number on_it.1)) ∙ told in
-            let silent = sym told_same ∙ quiet (sym same.1 ∙ eqb-true lock.component its_component on_it.0) in
+            let silent = sym (told_same modules component section number no_event) ∙ quiet (sym same.1 ∙ eqb-true lock.component its_component on_it.0) in
             absurd cc
 
 -- What is found under a path stays.
 pub found_behind : (modules : Modules) (component : ℕ) (section : List ℕ) (path : Path) (bytes : List ℕ)
     → ((look modules.stored path ≡ Found bytes) → (component ≡ path.component → tells_of path.«module» (store.changes_by component section modules.stored) ≡ false)
     → look (store.with_section component section modules.stored) path ≡ Found bytes)
-    → look_up modules path ≡ Found bytes → (component ≡ path.component → tells_of path.«module» (changes_by component section modules) ≡ false)
+    → look_up modules path ≡ Found bytes → data_event_by component section modules.stored ≡ None
+    → (component ≡ path.component → tells_of path.«module» (changes_by component section modules) ≡ false)
     → look_up (with_section component section modules) path ≡ Found bytes
-found_behind modules component section path bytes in_store found quiet = by_kept (kept_on modules.locks path.component path.«module») refl
+found_behind modules component section path bytes in_store found no_event quiet = by_kept (kept_on modules.locks path.component path.«module») refl
   where
     now : Modules
     now = with_section component section modules
 
-    told_same : tells_of path.«module» (changes_by component section modules) ≡ tells_of path.«module» (store.changes_by component section modules.stored)
-    told_same = any-made (λ (change : Change). eqb change.«module» path.«module») (change_told component modules.locks) (store.changes_by component section modules.stored)
-
     by_kept : (o : Option KeptModule) → kept_on modules.locks path.component path.«module» ≡ o → look_up now path ≡ Found bytes
     by_kept (Some kept) is =
-        rw (kept_behind modules component section path.component path.«module» kept is) (rw is at found)
+        rw (kept_behind modules component section path.component path.«module» kept no_event is) (rw is at found)
     by_kept None is =
-        rw (none_behind modules component section path.component path.«module» quiet is)
-        (in_store (rw is at found) (λ same. sym told_same ∙ quiet same))
+        rw (none_behind modules component section path.component path.«module» no_event quiet is)
+        (in_store (rw is at found) (λ same. sym (told_same modules component section path.«module» no_event) ∙ quiet same))
 
 -- The start path stays.
 pub start_behind : (modules : Modules) (component : ℕ) (section : List ℕ)
     → ((component ≡ start_component → tells_of 0 (store.changes_by component section modules.stored) ≡ false)
     → resources.start_path (store.with_section component section modules.stored) ≡ resources.start_path modules.stored)
+    → data_event_by component section modules.stored ≡ None
     → (component ≡ start_component → tells_of 0 (changes_by component section modules) ≡ false)
     → start_path (with_section component section modules) ≡ start_path modules
-start_behind modules component section in_store quiet = by_kept (kept_on modules.locks start_component 0) refl
+start_behind modules component section in_store no_event quiet = by_kept (kept_on modules.locks start_component 0) refl
   where
     now : Modules
     now = with_section component section modules
 
-    told_same : tells_of 0 (changes_by component section modules) ≡ tells_of 0 (store.changes_by component section modules.stored)
-    told_same = any-made (λ (change : Change). eqb change.«module» 0) (change_told component modules.locks) (store.changes_by component section modules.stored)
-
     by_kept : (o : Option KeptModule) → kept_on modules.locks start_component 0 ≡ o → start_path now ≡ start_path modules
     by_kept (Some kept) is =
-        rw (kept_behind modules component section start_component 0 kept is, is) refl
+        rw (kept_behind modules component section start_component 0 kept no_event is, is) refl
     by_kept None is =
-        rw (none_behind modules component section start_component 0 quiet is, is)
-        (in_store (λ same. sym told_same ∙ quiet same))
+        rw (none_behind modules component section start_component 0 no_event quiet is, is)
+        (in_store (λ same. sym (told_same modules component section 0 no_event) ∙ quiet same))
 
-pub lock_behind_stands : (modules : Modules) (component : ℕ) (section : List ℕ) (its_component number : ℕ)
+pub lock_behind_stands : (modules : Modules) (component : ℕ) (section : List ℕ) (its_component number : ℕ) → data_event_by component section modules.stored ≡ None
     → is_some (lock_on (with_section component section modules).locks its_component number) ≡ is_some (lock_on modules.locks its_component number)
-lock_behind_stands modules component section its_component number =
+lock_behind_stands modules component section its_component number none =
     let changes = store.changes_by component section modules.stored in
     let now = store.with_section component section modules.stored in
-    stands_still (lock_behind component changes now) (behind_stays component changes now) its_component number modules.locks
+    stands_still (lock_behind component changes now) (behind_stays component changes now) its_component number (locks_at component section modules)
+    ∙ ap (λ l. is_some (lock_on l its_component number)) (left_all modules component section none)
+
+-- ---- a data event
+
+-- no lock is left
+pub none_left_behind : (modules : Modules) (component : ℕ) (section : List ℕ) → is_some (data_event_by component section modules.stored) ≡ true → (with_section component section modules).locks ≡ []
+none_left_behind modules component section is = by_event (data_event_by component section modules.stored) is
+  where
+    by_event : (event : Option Change) → is_some event ≡ true
+        → map (lock_behind component (store.changes_by component section modules.stored) (store.with_section component section modules.stored)) (locks_left event modules.locks) ≡ []
+    by_event None e = absurd cc
+    by_event (Some event) e = refl
+
+-- its own change tells of no lock
+event_unlocked : (before after : Option ℕ) (event : Change) → data_event_between before after ≡ Some event → event.locked ≡ false
+event_unlocked None after event e = absurd cc
+event_unlocked (Some before) None event e = absurd cc
+event_unlocked (Some before) (Some after) event e = by_test (eqb before after) e
+  where
+    by_test : (b : Bool) → cond b None (Some (data_event before after)) ≡ Some event → event.locked ≡ false
+    by_test true e = absurd cc
+    by_test false e = let same : data_event before after ≡ event = cc in ap (λ (change : Change). change.locked) (sym same)
+
+abbrev IsUnlocked : Change → Type 0
+IsUnlocked change = change.locked ≡ false
+
+pub all_unlocked : (modules : Modules) (component : ℕ) (section : List ℕ) → is_some (data_event_by component section modules.stored) ≡ true → All IsUnlocked (changes_by component section modules)
+all_unlocked modules component section is = by_event (data_event_by component section modules.stored) refl is
+  where
+    found : List Change
+    found = store.changes_by component section modules.stored
+
+    by_event : (event : Option Change) → data_event_by component section modules.stored ≡ event → is_some event ≡ true
+        → All IsUnlocked (option_to_list event ++ map (change_told component (locks_left event modules.locks)) found)
+    by_event None told e = absurd cc
+    by_event (Some event) told e =
+        All-cons IsUnlocked event (map (change_told component []) found)
+        (event_unlocked (event_id modules.stored) (event_id (store.with_section component section modules.stored)) event told)
+        (All-map IsUnlocked (change_told component []) found (λ k d low. refl))
 
 -- ---- another lock
 

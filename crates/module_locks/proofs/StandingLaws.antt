@@ -1,15 +1,17 @@
 -- What is had of the locks stands for them behind each step.
-use Rattle.std.proofs.Common.{◌≡◌, ◌≢◌, ◌∙◌, ℕ, Bool, true, false, cond, eqb, List, [], ◌∷◌, ◌++◌, length, map, Option, Some, None, refl, sym, ap, subst, inl, inr}
+use Rattle.std.proofs.Common.{◌≡◌, ◌≢◌, ◌∙◌, ℕ, Bool, true, false, cond, eqb, List, [], ◌∷◌, ◌++◌, length, map, Option, Some, None, refl, sym, ap, ap₂, subst, inl, inr}
 use Rattle.std.specs.Prelude.{All, ◌⊎◌, ◌&&◌, not, nat_lt, find, filter, is_some, option_map, option_and_then}
 use Rattle.std.specs.Option.{option_map_or}
 use Rattle.std.proofs.lemmas.Bool.{and_parts, eqb-true}
 use Rattle.std.proofs.lemmas.Bool.Decides.{eqb_tells}
 use Rattle.std.proofs.lemmas.List.{length-map, map-append}
-use Rattle.std.proofs.lemmas.List.Elements.{All-filter, All-map, All-push, All-weaker}
+use Rattle.std.proofs.lemmas.List.Elements.{All-filter, All-map, All-nil, All-push, All-weaker}
 use Rattle.carousel_blocks.specs.declared.changes.Change.{Change}
+use Rattle.carousel_blocks.specs.DataEvents.{data_event_between}
 use Rattle.multipart_entities.specs.declared.paths.Path.{Path}
 use Rattle.psi_tables.specs.declared.components.Component.{Component}
 use Rattle.module_store.specs.Copies.{KeptModule}
+use Rattle.module_store.specs.DataEvents.{data_event_by, event_id}
 use Rattle.module_store.specs.Resources.{Presence, look, presence, start_component}
 use Rattle.module_store.specs.Resources as resources
 use Rattle.module_store.specs.Resources.Presence.{Absent, Announced, Held}
@@ -22,7 +24,7 @@ use Rattle.module_locks.specs.declared.answers.LockAnswer.TheVariants as answers
 use Rattle.module_locks.specs.declared.locks.HeldLock.{HeldLock}
 use Rattle.module_locks.specs.declared.locks.Keeping.{Keeping}
 use Rattle.module_locks.specs.declared.locks.Keeping.TheVariants.{Wanted, InStore, Copied}
-use Rattle.module_locks.specs.Locks.{Lock, Modules, answer_at, answer_by, change_told, changes_by, delivers, has_place, is_delivery, is_lock_on, is_wanted, kept_now, kept_of, kept_on, lock_answer, lock_behind, lock_on, lock_with, locks_behind, locks_with, look_kept, look_up, most_locks, start_path, start_path_as, with_lock, with_map, with_section, without_lock}
+use Rattle.module_locks.specs.Locks.{Lock, Modules, answer_at, answer_by, change_told, delivers, has_place, is_delivery, is_lock_on, is_wanted, kept_now, kept_of, kept_on, lock_answer, lock_behind, lock_on, lock_with, locks_behind, locks_left, locks_with, look_kept, look_up, module_changes_by, most_locks, start_path, start_path_as, with_lock, with_map, with_section, without_lock}
 use Rattle.module_locks.specs.Standing.{IsHeld, IsHeldBy, ModulesState, StandsFor, kept_by, lock_of}
 use Rattle.module_locks.specs.devices.Keeping.{AreOwn, IsOwnBy, answer_new, copy_in, copy_on, has_room, holding, is_held_on, is_wanted_in, is_wanting, new_lock, told_with, wanting_on, with_delivery, with_store}
 use Rattle.module_locks.proofs.ListLaws.{any-made, any-same, filter-made, find-made, found_has, found_passes, map-map, map-same}
@@ -100,17 +102,23 @@ module _ (component : ℕ) (changes : List Change) (was now : Stored) (delivered
   behind : (held : HeldLock) → IsOwnBy held.keeping → IsBehind component changes was now held
   behind held own = behind_by held.component held.«module» held.keeping own
 
+-- the modules behind a section, where these locks are left
+abbrev behind_section : ℕ → List ℕ → Modules → List Lock → Modules
+behind_section component section modules locks =
+    let now = store.with_section component section modules.stored in
+    record { stored = now; locks = map (lock_behind component (store.changes_by component section modules.stored) now) locks }
+
 pub stands_behind : (mid : ModulesState) (new : StoreState) (modules : Modules) (component : ℕ) (section : List ℕ) (changes : List Change) → StandsFor mid modules → AreOwn mid.locks
     → changes ≡ store.changes_by component section modules.stored
     → store_state.StandsFor new (store.with_section component section modules.stored)
-    → StandsFor (record { store = new; locks = map (with_delivery component changes) mid.locks }) (with_section component section modules)
+    → StandsFor (record { store = new; locks = map (with_delivery component changes) mid.locks }) (behind_section component section modules modules.locks)
 stands_behind mid new modules component section changes stands own told is =
     let now = store.with_section component section modules.stored in
     let found = store.changes_by component section modules.stored in
     let delivered = λ (number : ℕ) (e : delivers number found ≡ true). delivered_kept modules.stored component section number e in
     let each = behind component found modules.stored now delivered in
     let their = λ (held : HeldLock). IsOwnBy held.keeping in
-    subst (λ (l : List Change). StandsFor (let s : ModulesState = record { store = new; locks = map (with_delivery component l) mid.locks } in s) (with_section component section modules)) (sym told)
+    subst (λ (l : List Change). StandsFor (let s : ModulesState = record { store = new; locks = map (with_delivery component l) mid.locks } in s) (behind_section component section modules modules.locks)) (sym told)
     (record {
       store = is;
       locks = ap (map (lock_behind component found now)) stands.locks
@@ -158,7 +166,7 @@ map-alike f g same [] = refl
 map-alike {X} {Y} f g same (x ∷ xs) = ap (λ (y : Y). y ∷ map f xs) (same x) ∙ ap (λ (l : List Y). g x ∷ l) (map-alike f g same xs)
 
 pub changes_told : (state : ModulesState) (modules : Modules) (component : ℕ) (section : List ℕ) (found : List Change) → StandsFor state modules → found ≡ store.changes_by component section modules.stored
-    → map (told_with component state.locks) found ≡ changes_by component section modules
+    → map (told_with component state.locks) found ≡ map (change_told component modules.locks) (store.changes_by component section modules.stored)
 changes_told state modules component section found stands is =
     map-alike (told_with component state.locks) (change_told component modules.locks) (told_same state modules component stands) found
     ∙ ap (map (change_told component modules.locks)) is
@@ -173,6 +181,26 @@ pub deliveries_told : (component its : ℕ) (locks : List HeldLock) (found : Lis
 deliveries_told component its locks found all =
     map-alike (with_delivery component (map (told_with its locks) found)) (with_delivery component found) (delivery_told component its locks found) all
 
+-- ---- a data event
+
+-- what is had of the locks then
+abbrev held_left : Option Change → List HeldLock → List HeldLock
+held_left event locks = cond (is_some event) [] locks
+
+abbrev left_state : Option Change → ModulesState → ModulesState
+left_state event state = record { store = state.store; locks = held_left event state.locks }
+
+abbrev left_modules : Option Change → Modules → Modules
+left_modules event modules = record { stored = modules.stored; locks = locks_left event modules.locks }
+
+left_stands : (state : ModulesState) (modules : Modules) (event : Option Change) → StandsFor state modules → StandsFor (left_state event state) (left_modules event modules)
+left_stands state modules None stands = stands
+left_stands state modules (Some event) stands = record { store = stands.store; locks = refl; held = All-nil (IsHeld modules.stored) }
+
+left_own : (event : Option Change) (locks : List HeldLock) → AreOwn locks → AreOwn (held_left event locks)
+left_own None locks own = own
+left_own (Some event) locks own = All-nil (λ (held : HeldLock). IsOwnBy held.keeping)
+
 -- ---- the whole of a step, by what its parts say
 
 module _ (mid : ModulesState) (store_before store_after : StoreState) (locks : List HeldLock) (modules : Modules)
@@ -186,20 +214,36 @@ module _ (mid : ModulesState) (store_before store_after : StoreState) (locks : L
       subst (λ (s : ModulesState). StandsFor (let t : ModulesState = record { store = store_after; locks = s.locks } in t) (with_map components modules)) (sym viewed)
       (stands_mapped mid store_after modules components stands own (maps modules.stored before))
 
-  module _ (component : ℕ) (section : List ℕ) (found told : List Change) (is_told : told ≡ map (told_with component locks) found)
+  -- the data event, by the data_event_ids before and behind
+  pub fed_event : (component : ℕ) (section : List ℕ) (was is : Option ℕ) (event : Option Change) → event ≡ data_event_between was is
+      → ((stored : Stored) → store_state.StandsFor store_before stored → was ≡ event_id stored) → ((stored : Stored) → store_state.StandsFor store_after stored → is ≡ event_id stored)
+      → ((stored : Stored) → store_state.StandsFor store_before stored → store_state.StandsFor store_after (store.with_section component section stored))
+      → event ≡ data_event_by component section modules.stored
+  fed_event component section was is event between was_is is_now takes =
+      between ∙ ap₂ data_event_between (was_is modules.stored before) (is_now (store.with_section component section modules.stored) (takes modules.stored before))
+
+  module _ (component : ℕ) (section : List ℕ) (found told : List Change) (event : Option Change) (left : List HeldLock) (left_is : left ≡ held_left event locks)
+      (event_is : event ≡ data_event_by component section modules.stored) (is_told : told ≡ map (told_with component left) found)
       (changes_are : (stored : Stored) → store_state.StandsFor store_before stored → found ≡ store.changes_by component section stored) where
-    pub fed_changes : told ≡ changes_by component section modules
+    left_now : left ≡ held_left event mid.locks
+    left_now = left_is ∙ ap (λ (s : ModulesState). held_left event s.locks) viewed
+
+    pub fed_changes : told ≡ module_changes_by component section modules
     fed_changes =
-        is_told ∙ ap (λ (s : ModulesState). map (told_with component s.locks) found) viewed
-        ∙ changes_told mid modules component section found stands (changes_are modules.stored before)
+        is_told ∙ ap (λ (l : List HeldLock). map (told_with component l) found) left_now
+        ∙ changes_told (left_state event mid) (left_modules event modules) component section found (left_stands mid modules event stands) (changes_are modules.stored before)
+        ∙ ap (λ (o : Option Change). map (change_told component (locks_left o modules.locks)) (store.changes_by component section modules.stored)) event_is
 
     pub fed : (after : ModulesState) → ((stored : Stored) → store_state.StandsFor store_before stored → store_state.StandsFor store_after (store.with_section component section stored))
-        → after.store ≡ store_after → after.locks ≡ map (with_delivery component told) locks → StandsFor after (with_section component section modules)
+        → after.store ≡ store_after → after.locks ≡ map (with_delivery component told) left → StandsFor after (with_section component section modules)
     fed after takes same_store new_locks =
-        let behind_it = stands_behind mid store_after modules component section found stands own (changes_are modules.stored before) (takes modules.stored before) in
-        let locks_are : after.locks ≡ map (with_delivery component found) mid.locks
-        = new_locks ∙ ap (λ (l : List Change). map (with_delivery component l) locks) is_told ∙ deliveries_told component component locks found locks
-        ∙ ap (λ (s : ModulesState). map (with_delivery component found) s.locks) viewed in
+        let behind_left = stands_behind (left_state event mid) store_after (left_modules event modules) component section found (left_stands mid modules event stands) (left_own event mid.locks own)
+        (changes_are modules.stored before) (takes modules.stored before) in
+        let behind_it = subst (λ (o : Option Change). StandsFor (let t : ModulesState = record { store = store_after; locks = map (with_delivery component found) (held_left event mid.locks) } in t)
+        (behind_section component section modules (locks_left o modules.locks))) event_is behind_left in
+        let locks_are : after.locks ≡ map (with_delivery component found) (held_left event mid.locks)
+        = new_locks ∙ ap (λ (l : List Change). map (with_delivery component l) left) is_told ∙ deliveries_told component component left found left
+        ∙ ap (map (with_delivery component found)) left_now in
         subst (λ (x : StoreState). StandsFor (let t : ModulesState = record { store = x; locks = after.locks } in t) (with_section component section modules)) (sym same_store)
         (subst (λ (l : List HeldLock). StandsFor (let t : ModulesState = record { store = store_after; locks = l } in t) (with_section component section modules)) (sym locks_are) behind_it)
 

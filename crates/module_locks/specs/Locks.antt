@@ -1,7 +1,7 @@
 -- The modules of a service with the locks on them: what a lock keeps, what a look-up finds then, and what becomes of locks
 -- (after lockModuleOnMemory and unlockModuleOnMemory of BML, ARIB STD-B24, volume 2; how many locks there may be, and when
 -- one keeps what, is this project's own).
-use Rattle.std.specs.Prelude.{ℕ, nat_lt, ◌==◌, Bool, ◌&&◌, not, if◌then◌else◌, List, [], ◌∷◌, ◌++◌, length, filter, find, map, Option, Some, None, codes, is_some, option_and_then}
+use Rattle.std.specs.Prelude.{ℕ, nat_lt, ◌==◌, Bool, ◌&&◌, not, if◌then◌else◌, List, [], ◌∷◌, ◌++◌, length, filter, find, map, Option, Some, None, codes, is_some, option_and_then, option_to_list}
 use Rattle.std.specs.List.{list_any}
 use Rattle.std.specs.Option.{option_map_or, option_or}
 use Rattle.carousel_blocks.specs.declared.changes.Change.{Change}
@@ -11,6 +11,7 @@ use Rattle.module_store.specs.Copies.{KeptModule}
 use Rattle.module_store.specs.Resources.{Presence, Resource, found_or_missing, look, named_as, presence, start_component}
 use Rattle.module_store.specs.Resources as resources
 use Rattle.module_store.specs.Resources.Presence.{Absent, Announced, Held}
+use Rattle.module_store.specs.DataEvents.{data_event_by}
 use Rattle.module_store.specs.Store.{Stored, delivered_by, number_of}
 use Rattle.module_store.specs.Store as store
 use Rattle.module_locks.specs.declared.answers.LockAnswer.{LockAnswer}
@@ -168,15 +169,32 @@ abbrev pub is_wanted : ℕ → ℕ → List Lock → Bool
 is_wanted component number locks =
     list_any (λ lock. is_lock_on component number lock && not (is_some lock.kept)) locks
 
+-- At a data event every lock ends, wanted or not, before entries are compared.
+abbrev pub locks_left : Option Change → List Lock → List Lock
+locks_left None locks = locks
+locks_left (Some event) locks = []
+
+-- the locks that stand when the section's changes are found
+abbrev pub locks_at : ℕ → List ℕ → Modules → List Lock
+locks_at component section modules =
+    locks_left (data_event_by component section modules.stored) modules.locks
+
 -- A change is told with whether a lock that was wanted on the module gets its bytes.
 abbrev pub change_told : ℕ → List Lock → Change → Change
 change_told component locks change =
     record change { locked = is_wanted component change.«module» locks && is_delivery change }
 
 -- what a section changes in the component's modules, in ascending module number
+abbrev pub module_changes_by : ℕ → List ℕ → Modules → List Change
+module_changes_by component section modules =
+    map (change_told component (locks_at component section modules))
+    (store.changes_by component section modules.stored)
+
+-- what a section changes: the data event comes first, where it is one
 abbrev pub changes_by : ℕ → List ℕ → Modules → List Change
 changes_by component section modules =
-    map (change_told component modules.locks) (store.changes_by component section modules.stored)
+    option_to_list (data_event_by component section modules.stored)
+    ++ module_changes_by component section modules
 
 -- one of these changes delivers the module
 abbrev pub delivers : ℕ → List Change → Bool
@@ -196,7 +214,7 @@ with_section component section modules =
       stored = now;
       locks = map
           (lock_behind component (store.changes_by component section modules.stored) now)
-          modules.locks;
+          (locks_at component section modules);
     }
 
 -- ---- another component map

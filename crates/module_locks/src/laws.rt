@@ -1,13 +1,14 @@
 //! What holds of modules with locks. Each function is a law: its contract is what it is for, and it
 //! does nothing when it runs.
 
-ghost use Rattle.std.specs.Prelude.{◌≡◌, ◌≤◌, ◌<◌, ◌^◌, ◌-◌, ◌++◌, ℕ, List, None, Some, true, false, is_some, length, AllPairs};
+ghost use Rattle.std.specs.Prelude.{◌≡◌, ◌≤◌, ◌<◌, ◌^◌, ◌-◌, ◌++◌, ℕ, List, [], None, Some, true, false, is_some, length, All, AllPairs};
 ghost use Rattle.multipart_entities.specs.declared.paths.Path.{Path};
 ghost use Rattle.psi_tables.specs.declared.components.Component.{Component};
 ghost use Rattle.psi_tables.specs.Components.{AreApart};
-ghost use Rattle.module_store.specs.Resources.{start_component};
+ghost use Rattle.module_store.specs.Resources.{look, start_component};
 ghost use Rattle.module_store.specs.Resources.Resource.{Found};
 ghost use Rattle.module_store.specs.Staying.{tells_of, is_gone};
+ghost use Rattle.module_store.specs.DataEvents.{data_event_by};
 ghost use Rattle.module_store.specs.Store.{gone_by};
 ghost use Rattle.module_store.specs.Copies.{KeptModule};
 ghost use Rattle.module_locks.specs.Histories.{Happening, behind_all};
@@ -16,11 +17,12 @@ ghost use Rattle.module_locks.specs.Locks.{Modules, changes_by, is_lock_on, kept
 use module_store::{law_of_found_resources, law_of_start_paths, law_of_undelivered_modules};
 
 /// What is found under a path stays there, with the same bytes, over each section and map that tells
-/// no change of its module. A lock changes no look-up.
+/// no change of its module, but for data events, at which the locks end. A lock changes no look-up.
 pub fn law_of_found_paths()
     ensures sections { (modules : Modules) (component : ℕ) (section : List ℕ) (path : Path)
         (bytes : List ℕ) → path.«module» < 2 ^ 16
         → look_up modules path ≡ Found bytes
+        → data_event_by component section modules.stored ≡ None
         → (component ≡ path.component
         → tells_of path.«module» (changes_by component section modules) ≡ false)
         → look_up (with_section component section modules) path ≡ Found bytes }
@@ -36,9 +38,11 @@ pub fn law_of_found_paths()
     law_of_found_resources();
 }
 
-/// The start path stays over each section and map that tells no change of its module.
+/// The start path stays over each section and map that tells no change of its module, but for data
+/// events.
 pub fn law_of_start_documents()
     ensures sections { (modules : Modules) (component : ℕ) (section : List ℕ)
+        → data_event_by component section modules.stored ≡ None
         → (component ≡ start_component
         → tells_of 0 (changes_by component section modules) ≡ false)
         → start_path (with_section component section modules) ≡ start_path modules }
@@ -50,10 +54,22 @@ pub fn law_of_start_documents()
     law_of_start_paths();
 }
 
-/// A lock stands until its module is unlocked, whatever comes.
+/// A lock stands until its module is unlocked or a data event comes, at which all end. No change of
+/// that section tells of a lock, and behind it look-ups find what the carousels have.
 pub fn law_of_standing_locks()
+    ensures events { (modules : Modules) (component : ℕ) (section : List ℕ)
+        → is_some (data_event_by component section modules.stored) ≡ true
+        → (with_section component section modules).locks ≡ [] }
+    ensures unlocked { (modules : Modules) (component : ℕ) (section : List ℕ)
+        → is_some (data_event_by component section modules.stored) ≡ true
+        → All (λ change. change.locked ≡ false) (changes_by component section modules) }
+    ensures looks { (modules : Modules) (component : ℕ) (section : List ℕ) (path : Path)
+        → is_some (data_event_by component section modules.stored) ≡ true
+        → look_up (with_section component section modules) path
+        ≡ look (with_section component section modules).stored path }
     ensures sections { (modules : Modules) (component : ℕ) (section : List ℕ)
         (its_component number : ℕ)
+        → data_event_by component section modules.stored ≡ None
         → is_some (lock_on (with_section component section modules).locks its_component number)
         ≡ is_some (lock_on modules.locks its_component number) }
     ensures locks { (modules : Modules) (component other its_component number : ℕ)
@@ -62,11 +78,12 @@ pub fn law_of_standing_locks()
         ≡ true }
 {}
 
-/// What a lock keeps stays as it is, whatever section comes and whatever module is locked, and until
-/// its own module is unlocked.
+/// What a lock keeps stays as it is, whatever section comes that is no data event, and whatever
+/// module is locked, and until its own module is unlocked.
 pub fn law_of_kept_modules()
     ensures sections { (modules : Modules) (component : ℕ) (section : List ℕ)
         (its_component number : ℕ) (kept : KeptModule)
+        → data_event_by component section modules.stored ≡ None
         → kept_on modules.locks its_component number ≡ Some kept
         → kept_on (with_section component section modules).locks its_component number
         ≡ Some kept }

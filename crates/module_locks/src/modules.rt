@@ -4,8 +4,9 @@ ghost use Rattle.std.specs.Prelude.{◌≡◌, ◌≤◌, ◌&&◌, ◌++◌, �
 ghost use Rattle.carousel_blocks.specs.InForce.{size_limit};
 ghost use Rattle.module_store.specs.Resources.{HasAtMost, presence, resource_of};
 ghost use Rattle.module_store.specs.Standing.{ForStored};
+ghost use Rattle.module_store.specs.DataEvents.{data_event_by};
 ghost use Rattle.module_store.specs.Store.{gone_by, number_of};
-ghost use Rattle.module_locks.specs.Locks.{at_start, changes_by, lock_answer, lock_on, look_up, seen_number, start_path, start_path_as, with_lock, with_map, with_section, without_lock};
+ghost use Rattle.module_locks.specs.Locks.{at_start, lock_answer, lock_on, look_up, module_changes_by, seen_number, start_path, start_path_as, with_lock, with_map, with_section, without_lock};
 ghost use Rattle.module_locks.specs.Locks as spec_locks;
 ghost use Rattle.module_locks.specs.Standing.{ForModules, IsHeld, StandsFor};
 ghost use Rattle.module_locks.specs.devices.Keeping.{answer_new as spec_answer};
@@ -14,7 +15,7 @@ ghost use Rattle.module_locks.specs.devices.Keeping.{AreOwn, IsOwnBy, KeepsLock,
 use crate::answers::LockAnswer;
 use crate::locks::{HeldLock, Keeping, is_delivery};
 use bml_bytes::{NoMemory, Text};
-use module_store::{Change, Look, ModuleCopy, ModulePresence, Store};
+use module_store::{Change, Look, ModuleCopy, ModulePresence, Store, data_event_between};
 use multipart_entities::Path;
 use psi_tables::Services;
 use std::alloc::Global;
@@ -31,6 +32,14 @@ const START_NAME: &[u8] = b"startup.bml";
 
 /// So many locks stand at most; this project's own limit.
 const MOST_LOCKS: usize = 64;
+
+/// What a section changed: the data event, where it is one, and then what became of modules of its
+/// component, in ascending module number.
+#[derive(Drop)]
+pub struct SectionChanges {
+    pub data_event: Option<Change>,
+    pub modules: Vec<Change>,
+}
 
 /// The modules of a service: the carousels of its components, and the locks on modules.
 ///
@@ -65,24 +74,33 @@ impl Modules {
         }
     }
 
-    /// Takes the next intact section of a component, and tells what it changed in the component's
-    /// modules, in ascending module number. A lock that was wanted on a module that it delivers
-    /// keeps the module from then on, which its change tells. After `NoMemory` the modules are as
-    /// before, and the section may be told once more.
-    pub fn feed(&mut self, component: u8, section: &[u8]) -> Result<Vec<Change>, NoMemory>
+    /// Takes the next intact section of a component, and tells what it changed: whether it is a data
+    /// event, and what became of the component's modules, in ascending module number. At a data event
+    /// every lock ends. Else a lock that was wanted on a module that the section delivers keeps the
+    /// module from then on, which its change tells. After `NoMemory` the modules are as before, and
+    /// the section may be told once more.
+    pub fn feed(&mut self, component: u8, section: &[u8]) -> Result<SectionChanges, NoMemory>
         requires { 12 ≤ length section.now }
         ensures stands { OnOk result (ForModules self.old
             (λ modules. StandsFor self.new (with_section component section.now modules))) }
-        ensures changes { IfOk result (λ found. ForModules self.old (λ modules. found.items
-            ≡ changes_by component section.now modules)) }
+        ensures event { IfOk result (λ found. ForModules self.old (λ modules. found.data_event
+            ≡ data_event_by component section.now modules.stored)) }
+        ensures changes { IfOk result (λ found. ForModules self.old (λ modules.
+            found.modules.items ≡ module_changes_by component section.now modules)) }
         ensures before { OnErr result (ForModules self.old (λ modules.
             StandsFor self.new modules)) }
     {
         self.copy_kept()?;
-        let mut changes = self.store.feed(component, section)?;
-        self.tell_locks(component, &mut changes);
-        self.keep_delivered(component, changes.as_slice());
-        Ok(changes)
+        let before = self.store.data_event_id();
+        let mut modules = self.store.feed(component, section)?;
+        let data_event = data_event_between(before, self.store.data_event_id());
+        self.end_locks(data_event.is_some());
+        self.tell_locks(component, &mut modules);
+        self.keep_delivered(component, modules.as_slice());
+        Ok(SectionChanges {
+            data_event,
+            modules,
+        })
     }
 
     /// Takes the component map of the service, and tells each entry of a component that left the map
@@ -101,8 +119,8 @@ impl Modules {
     }
 
     /// Locks a module of a component: it is kept as it is held, or, where it isn't held yet, from
-    /// when it is. It stays so until it is unlocked, whatever becomes of its entry and of its
-    /// component. At most 64 locks stand. Locking a module that is kept changes nothing.
+    /// when it is. It stays so until it is unlocked or a data event comes, whatever else becomes of its
+    /// entry and of its component. At most 64 locks stand. Locking a module that is kept changes nothing.
     pub fn lock(&mut self, component: u8, module: u16) -> Result<LockAnswer, NoMemory>
         ensures answer { IfOk result (λ answer. ForModules self.old (λ modules. answer
             ≡ lock_answer component «module» modules)) }
@@ -288,6 +306,16 @@ impl Modules {
             copy_lock(self.alloc, &self.store, lock)?;
         }
         Ok(())
+    }
+
+    // At a data event every lock ends.
+    fn end_locks(&mut self, is_event: bool)
+        ensures locks { self.new.locks ≡ (if is_event then [] else self.old.locks) }
+        ensures store { self.new.store ≡ self.old.store }
+    {
+        if is_event {
+            self.locks.clear();
+        }
     }
 
     // Tells in each change that delivers a module whether a lock on it was wanted.

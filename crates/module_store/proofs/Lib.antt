@@ -12,3 +12,4 @@ pub mod MapLaws
 pub mod StayingLaws
 pub mod SinceLaws
 pub mod UndeliveredLaws
+pub mod DataEventLaws

@@ -1,5 +1,6 @@
 pub mod Store
 pub mod Resources
+pub mod DataEvents
 pub mod Entities
 pub mod Standing
 pub mod Noted

@@ -7,7 +7,8 @@
 //! component when the map brings it, and for its numbers, half a megabyte, with its first section; both are given back
 //! when it leaves the map or gets another PID; and for the parts of an entity when its module is held. A look-up takes none
 //! and copies nothing. Whether a module is there is told by [`Store::presence`], and a [`ModuleCopy`] outlives the module
-//! that it was made of. [`push_change_line`] writes the line that tells of a change (`specs/Lines.antt`).
+//! that it was made of. [`Store::data_event_id`] tells one data event of the service from the next. [`push_change_line`]
+//! writes the line that tells of a change (`specs/Lines.antt`).
 #![tactic(auto)]
 
 mod copies;
@@ -22,10 +23,10 @@ mod store;
 
 pub use crate::copies::ModuleCopy;
 pub use crate::laws::{
-    law_of_component_messages, law_of_found_resources, law_of_start_paths,
+    law_of_component_messages, law_of_data_events, law_of_found_resources, law_of_start_paths,
     law_of_undelivered_modules,
 };
 pub use crate::lines::push_change_line;
 pub use crate::resources::{Look, ModulePresence};
 pub use crate::store::Store;
-pub use carousel_blocks::{Change, ChangeLine, SkipCause};
+pub use carousel_blocks::{Change, ChangeLine, SkipCause, data_event_between};

@@ -1,8 +1,9 @@
 //! What is kept of one component.
 
-ghost use Rattle.std.specs.Prelude.{◌≡◌, ◌≤◌, List, Some, length, IfOk, OnErr, option_copied};
+ghost use Rattle.std.specs.Prelude.{◌≡◌, ◌≤◌, List, Some, length, IfOk, OnErr, option_copied, option_map};
 ghost use Rattle.carousel_blocks.specs.Changes.{departures};
-ghost use Rattle.carousel_blocks.specs.InForce.{size_limit};
+ghost use Rattle.carousel_blocks.specs.DataEvents.{data_event_id};
+ghost use Rattle.carousel_blocks.specs.InForce.{in_force, size_limit};
 ghost use Rattle.carousel_blocks.specs.Held.{bytes_held};
 ghost use Rattle.carousel_blocks.specs.Message.{Message};
 ghost use Rattle.carousel_blocks.specs.Carousel as of_carousel;
@@ -99,6 +100,14 @@ impl Slot {
         ensures { result ≡ delivery_in self.now.deliveries «module» }
     {
         self.numbers.of(module)
+    }
+
+    /// The data_event_id of the DII in force.
+    pub fn data_event_id(&self) -> Option<u8>
+        ensures { (messages : List Message) → of_carousel.StandsFor self.now.carousel messages
+            → result ≡ option_map data_event_id (in_force messages) }
+    {
+        self.carousel.data_event_id()
     }
 
     /// What goes where the component leaves.

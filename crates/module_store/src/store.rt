@@ -8,6 +8,7 @@ ghost use Rattle.carousel_blocks.specs.Carousel as of_carousel;
 ghost use Rattle.module_store.specs.Store.{Followed, Stored, component_in, gone_with, at_start, changes_by, with_section, with_map, gone_by, number_of, messages_of_component, is_kept as kept_by};
 ghost use Rattle.module_store.specs.Resources.{HasAtMost, HoldsAtMost, look, presence, presence_of, resource_of, start_info, start_path};
 ghost use Rattle.module_store.specs.Resources as resources;
+ghost use Rattle.module_store.specs.DataEvents.{event_id};
 ghost use Rattle.module_store.specs.Standing.{ForStored, StandsFor, has_component, has_tag, component_with};
 ghost use Rattle.module_store.specs.Slots.{AreAdded, kept_of, is_followed as followed_by};
 
@@ -93,6 +94,15 @@ impl Store {
         let slot = &mut self.slots[place];
         let changes = slot.take(self.alloc, &mut self.count, section)?;
         Ok(changes)
+    }
+
+    /// The data_event_id of the service, 0 to 15: that of the DII in force of component 0x40; None where it has none. The
+    /// cost is that of a look at the components, and this takes no memory.
+    pub fn data_event_id(&self) -> Option<u8>
+        ensures { ForStored self.now (λ stored. result ≡ event_id stored) }
+    {
+        let slot = slot_of(&self.slots, START_COMPONENT)?;
+        slot.data_event_id()
     }
 
     /// Takes the component map of the service. A component that stays on its PID keeps its modules; every other begins

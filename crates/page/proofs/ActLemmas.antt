@@ -17,12 +17,12 @@ use Rattle.acting_documents.specs.Notices.{notice_effect}
 use Rattle.acting_documents.specs.declared.notices.Notice.{Notice}
 use Rattle.acting_documents.specs.declared.notices.Notice.TheVariants as notices
 use Rattle.browser_objects.specs.Calls.{BrowserParts}
-use Rattle.acting_documents.specs.devices.Doings.{DoesApart, IsScene, lent_modules}
+use Rattle.acting_documents.specs.devices.Doings.{Does, DoesApart, IsScene, lent_modules}
 use Rattle.acting_documents.specs.Documents.{Document, passes}
 use Rattle.acting_documents.specs.devices.Kept.{IsDocument, KeptDocument}
 use Rattle.acting_documents.specs.Runs.{Effect, Scene, acting_in, effect_of_change, no_event, no_effect}
-use Rattle.module_locks.specs.Standing.{ModulesState}
-use Rattle.page.specs.devices.Acts.{ActsApart}
+use Rattle.module_locks.specs.Standing.{ModulesState, StandsFor}
+use Rattle.page.specs.devices.Acts.{ActsApart, Ends, Lent, with_lent}
 
 -- ---- event items
 
@@ -167,3 +167,21 @@ acts_apart effect now old lent did new browser back given_back before after (Ok 
             text_is = has.text_is;
           };
     }
+
+-- ---- ends
+
+-- what ends it while it is lent that
+pub ends_lent : {A E : Type 0} (effect : Scene → Effect) (now : ℕ) (old lent did : KeptDocument) (given back : Lent) (before after : List ℕ) (result : Result A E) → lent ≡ with_lent old given now → back.browser ≡ did.lent → back.modules ≡ did.modules
+    → OnOk result (Does effect lent did before after) → OnOk result (Ends effect now old given back before after)
+ends_lent effect now old lent did given back before after (Err fault) lent_as browser_as modules_as does = tt
+ends_lent effect now old lent did given back before after (Ok done) lent_as browser_as modules_as does = record {
+  text = does.text;
+  printed = does.printed;
+  ends = λ s scene.
+      let has = does.does s (subst (λ (k : KeptDocument). IsScene k s) (sym lent_as) scene) in
+      record {
+        browser_is = browser_as ∙ has.is.lent_is;
+        modules = subst (λ (m : ModulesState). StandsFor m (effect s).scene.modules) (sym modules_as) has.is.modules;
+        text_is = has.text_is;
+      };
+}

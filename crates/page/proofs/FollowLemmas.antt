@@ -15,6 +15,7 @@ use Rattle.es_eval.specs.Evaluation.{global_run, run_at}
 use Rattle.es_eval.specs.Worlds.{Run}
 use Rattle.es_eval.specs.Worlds.Run.{Over, Reads, Writes, Calls}
 use Rattle.es_shapes.specs.Sources.{program_of}
+use Rattle.event_items.specs.Subscriptions.{data_event_items}
 use Rattle.event_queue.specs.Events.{name_of}
 use Rattle.event_queue.specs.Timers.{Timer, timer_of}
 use Rattle.event_queue.specs.declared.events.Event.{Event}
@@ -26,7 +27,7 @@ use Rattle.multipart_entities.specs.declared.paths.Path.{Path}
 use Rattle.dom_objects.specs.declared.current_events.CurrentEvent.{CurrentEvent}
 use Rattle.document_stages.specs.Acting.{member_value, with_browser, with_member_set}
 use Rattle.document_stages.specs.Hosting.{HostParts, reply_of_call, reply_of_effect}
-use Rattle.acting_documents.specs.Beginnings.{begin, load_effect, run_scripts, script_places, unload_effect, without_waiting}
+use Rattle.acting_documents.specs.Beginnings.{begin, data_event_effect, items_effect, load_effect, run_scripts, script_places, unload_effect, without_waiting}
 use Rattle.acting_documents.specs.Documents.{Document, handler_in}
 use Rattle.carousel_blocks.specs.declared.changes.Change.{Change}
 use Rattle.event_messages.specs.declared.messages.Message.{Message}
@@ -183,6 +184,7 @@ handled-follows (events.Updated item status) s =
     handler-follows (events.Updated item status) item s
 handled-follows (events.Locked item status) s = handler-follows (events.Locked item status) item s
 handled-follows (events.Button item) s = handler-follows (events.Button item) item s
+handled-follows (events.DataEvent item) s = handler-follows (events.DataEvent item) item s
 
 -- ---- loads and ends
 
@@ -200,6 +202,21 @@ load-follows s =
 pub unload-follows : (s : Scene) → FollowsScene s (unload_effect s)
 unfolding unload_effect
 unload-follows s = handled-follows events.Unload (without_waiting s)
+
+items-follows : (items : List ℕ) (s : Scene) → FollowsScene s (items_effect items s)
+items-follows [] s = stays s.modules
+items-follows (item ∷ items) s =
+    let e = event_effect (events.DataEvent item) s in
+    follows_on s.modules e.scene.modules (items_effect items e.scene).scene.modules
+    (handled-follows (events.DataEvent item) s) (items-follows items e.scene)
+
+pub data-event-follows : (s : Scene) → FollowsScene s (data_event_effect s)
+unfolding data_event_effect
+data-event-follows s =
+    let items = data_event_items s.document.items in
+    let e = items_effect items (without_waiting s) in
+    follows_on s.modules e.scene.modules (event_effect events.Unload e.scene).scene.modules
+    (items-follows items (without_waiting s)) (handled-follows events.Unload e.scene)
 
 -- ---- what a document is told
 

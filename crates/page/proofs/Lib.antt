@@ -1,4 +1,5 @@
 mod ActLemmas
+mod DataEventLaws
 mod FollowLemmas
 mod GiftLaws
 mod MemoryLaws

@@ -1,10 +1,11 @@
 -- What calls of a page come to, whatever state it is in.
-use Rattle.std.proofs.Common.{◌≡◌, ◌∙◌, ℕ, ◌+◌, ◌<◌, ◌≤◌, suc, Bool, true, false, List, [], ◌∷◌, ◌++◌, length, drop, refl, sym, ap, ap₂, subst, append_assoc, append-nil, arith}
-use Rattle.std.specs.Prelude.{zero, Option, Some, None, IfOk, OnOk, is_err, option_map, option_and_then, Result, Ok, Err, option_to_list}
+use Rattle.std.proofs.Common.{◌≡◌, ◌∙◌, ℕ, ◌+◌, ◌<◌, ◌≤◌, suc, Bool, true, false, cond, List, [], ◌∷◌, ◌++◌, length, drop, refl, sym, ap, ap₂, subst, append_assoc, append-nil, arith}
+use Rattle.std.specs.Prelude.{zero, ◌||◌, Option, Some, None, IfOk, OnOk, is_err, option_map, option_and_then, Result, Ok, Err, option_to_list}
 use Rattle.std.specs.Option.{option_map_or, option_or}
 use Rattle.std.specs.Io.{StartsWith}
 use Rattle.std.proofs.lemmas.List.{take-append-drop}
 use Rattle.bml_reader.specs.declared.faults.DocFault.{DocFault}
+use Rattle.carousel_blocks.specs.DataEvents.{is_data_event}
 use Rattle.carousel_blocks.specs.declared.changes.Change.{Change}
 use Rattle.browser_objects.specs.Calls.{BrowserParts, without_document}
 use Rattle.display_list.specs.Show.{clock_line}
@@ -22,13 +23,13 @@ use Rattle.acting_documents.specs.Handling.{change_effect, due_effect, event_eff
 use Rattle.acting_documents.specs.devices.Kept.{IsDocument, KeptDocument}
 use Rattle.acting_documents.specs.Runs.{Effect, Scene}
 use Rattle.page.specs.devices.Acts.{Acts, ActsApart, HasActed, HasStayed, Lent, with_lent}
-use Rattle.page.specs.Dispatches.{dispatch, dispatches, event_in, load_at, most_dispatches, next_and, next_event, next_load, turn}
-use Rattle.page.specs.Inputs.{change_step, display_of, document_step, due_step, with_clock}
+use Rattle.page.specs.Dispatches.{data_event_step, dispatch, dispatches, event_in, load_at, most_dispatches, next_and, next_data_event, next_event, next_load, turn}
+use Rattle.page.specs.Inputs.{change_step, display_of, document_step, due_step, told_step, with_clock, with_data_event}
 use Rattle.page.specs.Loading.{load, loadable_reading, document_of_draft, wanted_path}
-use Rattle.page.specs.Remembering.{Loaded, loaded_at, loads_behind, loads_in, loads_of_turn}
+use Rattle.page.specs.Remembering.{Loaded, loaded_as, loaded_at, loads_behind, loads_in, loads_of_turn, wanted_loaded}
 use Rattle.page.specs.devices.Memories.{MemoryState, RemembersBehind, RemembersTruly}
-use Rattle.page.specs.devices.Pendings.{Loads, loading_behind, wanted_at, wanted_of}
-use Rattle.page.specs.Standing.{AreDocuments, Begins, HasMade, HasMadeAmid, HasMadeOf, IsAlone, Makes, MakesAmid, MakesWith, MayMake, PageState, Posts, StandsAmid, StandsFor, TakesLoad, behind_launch, page_owed, with_document, Remembers, RemembersLoads, RemembersStill, memory_of, next_loads}
+use Rattle.page.specs.devices.Pendings.{Loads, MayLoad, loading_behind, wanted_at, wanted_of}
+use Rattle.page.specs.Standing.{AreDocuments, Begins, HasMade, HasMadeAmid, HasMadeOf, IsAlone, Makes, MakesAmid, MakesWith, MayMake, PageState, Posts, StandsAmid, StandsFor, TakesLoad, behind_launch, page_owed, with_document, Remembers, RemembersLoads, RemembersStill, memory_of, next_loads, wanted_loads}
 use Rattle.page.specs.State.{State, Step, Wanted, scene_in, stays_or_goes, step_behind, step_of, still}
 use Rattle.page.specs.State.Wanted.{NoDocument}
 use Rattle.page.specs.declared.loading.Load.{Load}
@@ -50,6 +51,7 @@ spent_stands page spent modules changes s stands = record {
   reader = stands.reader;
   document = stands.document;
   wanted = stands.wanted;
+  data_event = stands.data_event;
   current = stands.current;
   clock = stands.clock;
   browser = stands.browser;
@@ -100,14 +102,14 @@ abbrev pub with_memory : MemoryState → PageState → PageState
 with_memory memory page = record page { remembered = memory.remembered; hits = memory.hits; entries = memory.entries }
 
 -- where a document is kept, it is that of the state
-document_there : (page : PageState) (s : State) (k : KeptDocument) → page.document ≡ Some k → AreDocuments page.document s.document → (d : Document) × (s.document ≡ Some d) × IsDocument k d
+pub document_there : (page : PageState) (s : State) (k : KeptDocument) → page.document ≡ Some k → AreDocuments page.document s.document → (d : Document) × (s.document ≡ Some d) × IsDocument k d
 document_there page s k is are = by s.document refl (subst (λ (x : Option KeptDocument). AreDocuments x s.document) is are)
   where
     by : (o : Option Document) → s.document ≡ o → AreDocuments (Some k) o → (d : Document) × (s.document ≡ Some d) × IsDocument k d
     by None e are = absurd are
     by (Some d) e are = (d, e, are)
 
-none_there : (page : PageState) (s : State) → page.document ≡ None → AreDocuments page.document s.document → s.document ≡ None
+pub none_there : (page : PageState) (s : State) → page.document ≡ None → AreDocuments page.document s.document → s.document ≡ None
 none_there page s is are = by s.document refl (subst (λ (x : Option KeptDocument). AreDocuments x s.document) is are)
   where
     by : (o : Option Document) → s.document ≡ o → AreDocuments None o → s.document ≡ None
@@ -144,6 +146,7 @@ stayed_amid page lent given_back changes s k browser text e none follows stands 
         reader = stands.reader;
         document = stayed.is;
         wanted = stands.wanted;
+        data_event = stands.data_event;
         current = nothing_read page e.scene.modules changes none;
         clock = stands.clock;
         browser = stayed.browser_is;
@@ -168,6 +171,7 @@ made_of (Some path) page lent given_back s k browser text e none follows stands 
         reader = stands.reader;
         document = tt;
         wanted = refl;
+        data_event = stands.data_event;
         current = tt;
         clock = stands.clock;
         browser = ap without_document acted.browser_is;
@@ -255,6 +259,7 @@ clock_moved moment page modules text s e has = by e.launched has
         reader = has.stands.reader;
         document = has.stands.document;
         wanted = has.stands.wanted;
+        data_event = has.stands.data_event;
         current = has.stands.current;
         clock = refl;
         browser = has.stands.browser;
@@ -270,6 +275,7 @@ clock_moved moment page modules text s e has = by e.launched has
         reader = has.stands.reader;
         document = has.stands.document;
         wanted = has.stands.wanted;
+        data_event = has.stands.data_event;
         current = has.stands.current;
         clock = refl;
         browser = has.stands.browser;
@@ -296,6 +302,7 @@ moved moment old page before after made = record {
         reader = has.stands.reader;
         document = has.stands.document;
         wanted = has.stands.wanted;
+        data_event = has.stands.data_event;
         current = has.stands.current;
         clock = refl;
         browser = has.stands.browser;
@@ -311,7 +318,7 @@ moved moment old page before after made = record {
 
 -- their line is told, and then the document does what it does, by a call that may find no memory
 pub change_as : {A E : Type 0} (component : ℕ) (change : Change) (old new : PageState) (before between after : List ℕ) (result : Result A E) → between ≡ before ++ line_of_change component change
-    → OnOk result (MakesAmid (document_step (change_effect component change)) old new between after) → OnOk result (MakesAmid (change_step component change) old new before after)
+    → OnOk result (MakesAmid (document_step (change_effect component change)) old new between after) → OnOk result (MakesAmid (told_step component change) old new before after)
 change_as component change old new before between after (Err fault) printed made = tt
 change_as component change old new before between after (Ok done) printed made =
     let line = line_of_change component change in
@@ -323,14 +330,34 @@ change_as component change old new before between after (Ok done) printed made =
           record { stands = has.stands; text_is = ap (λ (l : List ℕ). line ++ l) has.text_is };
     }
 
--- a change is followed, and then told
-posts_change : (component : ℕ) (change : Change) (page now : PageState) (before after : List ℕ) (spent : Bool) → MakesAmid (change_step component change) (behind_change component change page) now before after
+-- a data event waits from its change on
+abbrev pub with_event_noted : Change → PageState → PageState
+with_event_noted change page = record page { data_event = page.data_event || is_data_event change }
+
+noted_stands : (change : Change) (page : PageState) (modules : ModulesState) (changes : List (ℕ × Change)) (s : State) → StandsAmid page modules changes s → StandsAmid (with_event_noted change page) modules changes (with_data_event change s)
+noted_stands change page modules changes s stands = record {
+  modules_are = stands.modules_are;
+  reader = stands.reader;
+  document = stands.document;
+  wanted = stands.wanted;
+  data_event = ap (λ (b : Bool). b || is_data_event change) stands.data_event;
+  current = stands.current;
+  clock = stands.clock;
+  browser = stands.browser;
+  happened = stands.happened;
+  reached = stands.reached;
+  truly = stands.truly;
+}
+
+-- a change is followed and noted, and then told
+posts_change : (component : ℕ) (change : Change) (page now : PageState) (before after : List ℕ) (spent : Bool) → MakesAmid (told_step component change) (with_event_noted change (behind_change component change page)) now before after
     → Posts ((component, change) ∷ []) page (with_spent spent now) before after
 posts_change component change page now before after spent made = record {
   text = made.text;
   printed = made.printed;
   makes = λ modules changes s stands.
-      let has = made.makes modules changes s (stands_followed component change changes page modules s stands) in
+      let noted = noted_stands change (behind_change component change page) modules changes s (stands_followed component change changes page modules s stands) in
+      let has = made.makes modules changes (with_data_event change s) noted in
       record {
         stands = spent_stands now spent modules changes (change_step component change s).state has.stands;
         text_is = has.text_is ∙ sym (append-nil (change_step component change s).text);
@@ -338,16 +365,17 @@ posts_change component change page now before after spent made = record {
 }
 
 -- the same of a call that spends the page where it found no memory
-pub posts_after : {A E : Type 0} (component : ℕ) (change : Change) (old page told now : PageState) (loading : Loading) (before after : List ℕ) (called result : Result A E) → page ≡ old → loading ≡ loading_behind component change page.loading
-    → OnOk called (MakesAmid (change_step component change) (with_loading loading page) told before after) → result ≡ called → now ≡ with_spent (is_err called) told → OnOk result (Posts ((component, change) ∷ []) old now before after)
-posts_after {A} {E} component change old page told now loading before after (Err fault) result view follows made same spent =
+pub posts_after : {A E : Type 0} (component : ℕ) (change : Change) (old page noted told now : PageState) (loading : Loading) (before after : List ℕ) (called result : Result A E) → page ≡ old → loading ≡ loading_behind component change page.loading
+    → noted ≡ with_event_noted change (with_loading loading page) → OnOk called (MakesAmid (told_step component change) noted told before after) → result ≡ called → now ≡ with_spent (is_err called) told → OnOk result (Posts ((component, change) ∷ []) old now before after)
+posts_after {A} {E} component change old page noted told now loading before after (Err fault) result view follows notes made same spent =
     subst (λ (r : Result A E). OnOk r (Posts ((component, change) ∷ []) old now before after)) (sym same) tt
-posts_after {A} {E} component change old page told now loading before after (Ok done) result view follows made same spent =
+posts_after {A} {E} component change old page noted told now loading before after (Ok done) result view follows notes made same spent =
     subst (λ (r : Result A E). OnOk r (Posts ((component, change) ∷ []) old now before after)) (sym same)
     (subst (λ (p : PageState). Posts ((component, change) ∷ []) p now before after) view
     (subst (λ (p : PageState). Posts ((component, change) ∷ []) page p before after) (sym spent)
     (posts_change component change page told before after false
-    (subst (λ (l : Loading). MakesAmid (change_step component change) (with_loading l page) told before after) follows made))))
+    (subst (λ (l : Loading). MakesAmid (told_step component change) (with_event_noted change (with_loading l page)) told before after) follows
+    (subst (λ (p : PageState). MakesAmid (told_step component change) p told before after) notes made)))))
 
 -- ---- what is shown
 
@@ -396,6 +424,7 @@ shown_with page k new before between after is printed shown same grows = record 
           reader = stands.reader;
           document = subst (AreDocuments (Some new)) (sym there.1) (subst (λ (x : KeptDocument). IsDocument x there.0) (sym same) (worked_is k there.0 new.worked new.owed there.2));
           wanted = stands.wanted;
+          data_event = stands.data_event;
           current = stands.current;
           clock = stands.clock;
           browser = stands.browser;
@@ -534,6 +563,7 @@ no_event_waits modules old page k taken before view is none e =
               reader = stands.reader;
               document = subst (AreDocuments (Some taken)) (sym there.1) (subst (λ (x : KeptDocument). IsDocument x there.0) (sym (none_taken k taken (sym none) e)) there.2);
               wanted = stands.wanted;
+              data_event = stands.data_event;
               current = stands.current;
               clock = stands.clock;
               browser = stands.browser;
@@ -560,43 +590,65 @@ pub may_make : (made is : Bool) (lent given_back : ModulesState) (step : State �
     → MayMake is lent given_back step old new before after
 may_make made is lent given_back step old new before after e may = subst (λ (b : Bool). MayMake b lent given_back step old new before after) e may
 
-pub loaded_first : (lent given_back : ModulesState) (old new : PageState) (before after : List ℕ) → MayMake true lent given_back next_load old new before after → MayMake true lent given_back dispatch old new before after
-unfolding dispatch
-loaded_first lent given_back old new before after made = record {
+-- the one step, and where there is none the other
+abbrev pub first_or : (State → Option Step) → (State → Option Step) → State → Option Step
+first_or one other s = option_or (one s) (other s)
+
+pub made_first : (one other : State → Option Step) (lent given_back : ModulesState) (old new : PageState) (before after : List ℕ) → MayMake true lent given_back one old new before after → MayMake true lent given_back (first_or one other) old new before after
+made_first one other lent given_back old new before after made = record {
   text = made.text;
   printed = made.printed;
-  makes = λ s stands. by s (next_load s) (next_event s) (made.makes s stands);
+  makes = λ s stands. by s (one s) (other s) (made.makes s stands);
 }
   where
-    by : (s : State) (loads events : Option Step) → HasMadeOf true new given_back made.text s loads → HasMadeOf true new given_back made.text s (option_or loads events)
-    by s None events has = absurd has
-    by s (Some t) events has = has
+    by : (s : State) (first next : Option Step) → HasMadeOf true new given_back made.text s first → HasMadeOf true new given_back made.text s (option_or first next)
+    by s None next has = absurd has
+    by s (Some t) next has = has
 
--- nothing was loaded: the page stands for the same state, and what comes next is an event
-none_loaded : (page : PageState) (modules : ModulesState) (text : List ℕ) (s : State) (loads : Option Step) → HasMadeOf false page modules text s loads → (loads ≡ None) × HasMade page modules text (still s)
-none_loaded page modules text s None has = (refl, has)
-none_loaded page modules text s (Some t) has = absurd has
+-- nothing was made: the page stands for the same state
+pub none_made : (page : PageState) (modules : ModulesState) (text : List ℕ) (s : State) (o : Option Step) → HasMadeOf false page modules text s o → (o ≡ None) × HasMade page modules text (still s)
+none_made page modules text s None has = (refl, has)
+none_made page modules text s (Some t) has = absurd has
 
-events_next : (s : State) → next_load s ≡ None → dispatch s ≡ next_event s
-unfolding dispatch
-events_next s e = ap (λ (o : Option Step). option_or o (next_event s)) e
+next_after : (first next : Option Step) → first ≡ None → option_or first next ≡ next
+next_after first next e = ap (λ (o : Option Step). option_or o next) e
 
-pub event_next : (made : Bool) (lent still_lent given_back : ModulesState) (old page new : PageState) (before between after : List ℕ) → MayMake false lent still_lent next_load old page before between → MayMake made still_lent given_back next_event page new between after
-    → MayMake made lent given_back dispatch old new before after
-event_next made lent still_lent given_back old page new before between after loads event = record {
-  text = loads.text ++ event.text;
-  printed = event.printed ∙ ap (λ (l : List ℕ). l ++ event.text) loads.printed ∙ append_assoc before loads.text event.text;
+pub made_next : (one other : State → Option Step) (made : Bool) (lent still_lent given_back : ModulesState) (old page new : PageState) (before between after : List ℕ) → MayMake false lent still_lent one old page before between → MayMake made still_lent given_back other page new between after
+    → MayMake made lent given_back (first_or one other) old new before after
+made_next one other made lent still_lent given_back old page new before between after first next = record {
+  text = first.text ++ next.text;
+  printed = next.printed ∙ ap (λ (l : List ℕ). l ++ next.text) first.printed ∙ append_assoc before first.text next.text;
   makes = λ s stands.
-      let none = none_loaded page still_lent loads.text s (next_load s) (loads.makes s stands) in
-      subst (λ (l : List ℕ). HasMadeOf made new given_back (l ++ event.text) s (dispatch s)) (sym none.1.text_is)
-      (subst (HasMadeOf made new given_back event.text s) (sym (events_next s none.0)) (event.makes s none.1.stands));
+      let none = none_made page still_lent first.text s (one s) (first.makes s stands) in
+      subst (λ (l : List ℕ). HasMadeOf made new given_back (l ++ next.text) s (option_or (one s) (other s))) (sym none.1.text_is)
+      (subst (HasMadeOf made new given_back next.text s) (sym (next_after (one s) (other s) none.0)) (next.makes s none.1.stands));
 }
 
--- the same of a call that may find no memory
-pub event_comes : {E : Type 0} (result : Result Bool E) (lent still_lent given_back : ModulesState) (old page new : PageState) (before between after : List ℕ) → MayMake false lent still_lent next_load old page before between
-    → IfOk result (λ made. MayMake made still_lent given_back next_event page new between after) → IfOk result (λ made. MayMake made lent given_back dispatch old new before after)
-event_comes (Err fault) lent still_lent given_back old page new before between after loads event = tt
-event_comes (Ok made) lent still_lent given_back old page new before between after loads event = event_next made lent still_lent given_back old page new before between after loads event
+-- a data event comes first, then a load, and then an event
+pub as_dispatch : (made : Bool) (lent given_back : ModulesState) (old new : PageState) (before after : List ℕ) → MayMake made lent given_back (first_or next_data_event (first_or next_load next_event)) old new before after → MayMake made lent given_back dispatch old new before after
+unfolding dispatch
+as_dispatch made lent given_back old new before after may = may
+
+-- a data event was handled
+pub event_first : (lent given_back : ModulesState) (old new : PageState) (before after : List ℕ) → MayMake true lent given_back next_data_event old new before after → MayMake true lent given_back dispatch old new before after
+event_first lent given_back old new before after made = as_dispatch true lent given_back old new before after (made_first next_data_event (first_or next_load next_event) lent given_back old new before after made)
+
+-- none was, and a document was loaded or refused
+pub load_first : (lent still_lent given_back : ModulesState) (old page new : PageState) (before between after : List ℕ) → MayMake false lent still_lent next_data_event old page before between → MayMake true still_lent given_back next_load page new between after
+    → MayMake true lent given_back dispatch old new before after
+load_first lent still_lent given_back old page new before between after waits loads =
+    as_dispatch true lent given_back old new before after
+    (made_next next_data_event (first_or next_load next_event) true lent still_lent given_back old page new before between after waits
+    (made_first next_load next_event still_lent given_back page new between after loads))
+
+-- none was either: what comes next is an event, by a call that may find no memory
+pub event_comes : {E : Type 0} (result : Result Bool E) (lent one_lent other_lent given_back : ModulesState) (old one other new : PageState) (first second third fourth : List ℕ) → MayMake false lent one_lent next_data_event old one first second → MayMake false one_lent other_lent next_load one other second third
+    → IfOk result (λ made. MayMake made other_lent given_back next_event other new third fourth) → IfOk result (λ made. MayMake made lent given_back dispatch old new first fourth)
+event_comes (Err fault) lent one_lent other_lent given_back old one other new first second third fourth waits loads event = tt
+event_comes (Ok made) lent one_lent other_lent given_back old one other new first second third fourth waits loads event =
+    as_dispatch made lent given_back old new first fourth
+    (made_next next_data_event (first_or next_load next_event) made lent one_lent given_back old one new first second fourth waits
+    (made_next next_load next_event made one_lent other_lent given_back one other new second third fourth loads event))
 
 -- ---- loads
 
@@ -630,11 +682,30 @@ none_wanted modules page before is = record {
   makes = λ s stands. subst (HasMadeOf false page modules [] s) (sym (nothing_next s (sym stands.wanted ∙ ap wanted_of is))) (record { stands = stands; text_is = refl });
 }
 
-pub load_nothing : (modules : ModulesState) (old page : PageState) (loading : Loading) (before : List ℕ) → page ≡ old → page.loading ≡ kept.Nothing → loading ≡ kept.Nothing
-    → MayMake false modules modules next_load old (with_loading loading page) before before
-load_nothing modules old page loading before view is e =
-    subst (λ (p : PageState). MayMake false modules modules next_load p (with_loading loading page) before before) view
-    (subst (λ (l : Loading). MayMake false modules modules next_load page (with_loading l page) before before) (is ∙ sym e) (none_wanted modules page before is))
+-- nothing can be loaded of what is wanted
+none_of : (s : State) (path : Option Path) → option_and_then (loadable_reading s.modules) path ≡ None → option_and_then (load_at s) path ≡ None
+none_of s None e = refl
+none_of s (Some path) e = ap (option_map (load s path)) e
+
+none_next : (s : State) (wanted : Wanted) → s.wanted ≡ wanted → option_and_then (loadable_reading s.modules) (wanted_path wanted s.modules) ≡ None → next_load s ≡ None
+unfolding next_load
+none_next s wanted is none = ap (λ (w : Wanted). option_and_then (load_at s) (wanted_path w s.modules)) is ∙ none_of s (wanted_path wanted s.modules) none
+
+pub load_none : (may : Bool) (modules : ModulesState) (old page : PageState) (before : List ℕ) → page ≡ old → MayLoad may modules page.loading → may ≡ false
+    → MayMake false modules modules next_load old old before before
+load_none true modules old page before view may is = absurd cc
+load_none false modules old page before view may is = subst (λ (p : PageState). MayMake false modules modules next_load p p before before) view (record {
+  text = [];
+  printed = sym (append-nil before);
+  makes = λ s stands.
+      subst (HasMadeOf false page modules [] s) (sym (none_next s (wanted_of page.loading) (sym stands.wanted) (may s.modules stands.modules_are)))
+      (record { stands = stands; text_is = refl });
+})
+
+-- else a document is wanted
+pub may_wanted : (may : Bool) (modules : ModulesState) (loading : Loading) → MayLoad may modules loading → may ≡ true → loading ≡ kept.Nothing → ⊥
+may_wanted true modules loading wanted is = wanted
+may_wanted false modules loading none is = absurd cc
 
 load_waits : (modules : ModulesState) (page : PageState) (memory : MemoryState) (loading : Loading) (before after : List ℕ) → (page.loading ≡ kept.Nothing → ⊥) → Loads modules page.loading (came.Waits loading) (memory_of page) memory before after
     → MayMake false modules modules next_load page (with_memory memory (with_loading loading page)) before after
@@ -651,6 +722,7 @@ load_waits modules page memory loading before after wanted loads = record {
           reader = stands.reader;
           document = stands.document;
           wanted = goes.still ∙ stands.wanted;
+          data_event = stands.data_event;
           current = goes.current;
           clock = stands.clock;
           browser = stands.browser;
@@ -682,6 +754,7 @@ load_refused modules page memory before after wanted loads = record {
           reader = stands.reader;
           document = tt;
           wanted = refl;
+          data_event = stands.data_event;
           current = tt;
           clock = stands.clock;
           browser = stands.browser;
@@ -703,6 +776,7 @@ nothing_wanted page memory modules s stands truly = record {
   reader = stands.reader;
   document = stands.document;
   wanted = refl;
+  data_event = stands.data_event;
   current = tt;
   clock = stands.clock;
   browser = stands.browser;
@@ -733,7 +807,7 @@ load_made lent given_back page now memory k before between after wanted loads be
     }
 
 -- where the modules weren't needed but to look, those that were lent are given back
-given_back_as : (made : Bool) (lent given_back : ModulesState) (step : State → Option Step) (old new : PageState) (before after : List ℕ) → given_back ≡ lent → MayMake made lent lent step old new before after → MayMake made lent given_back step old new before after
+pub given_back_as : (made : Bool) (lent given_back : ModulesState) (step : State → Option Step) (old new : PageState) (before after : List ℕ) → given_back ≡ lent → MayMake made lent lent step old new before after → MayMake made lent given_back step old new before after
 given_back_as made lent given_back step old new before after is may = subst (λ (m : ModulesState). MayMake made lent m step old new before after) (sym is) may
 
 -- what was taken of a load is what the load makes of the state
@@ -765,7 +839,7 @@ load_taken lent given_back old page now memory loading emptied what before middl
 
 -- the load of what is wanted is remembered
 remembers_load : (modules : ModulesState) (page now : PageState) (memory : MemoryState) (what : Load) (before after : List ℕ) → (page.loading ≡ kept.Nothing → ⊥) → Loads modules page.loading what (memory_of page) memory before after → memory_of now ≡ memory
-    → RemembersLoads next_loads modules page now
+    → RemembersLoads wanted_loads modules page now
 remembers_load modules page now memory what before after wanted loads same = λ s stands.
     let at = path_wanted page.loading wanted s.modules in
     let came = loads.loads s.modules stands.modules_are stands.happened stands.reached stands.truly stands.current at.0 at.1 s.read stands.reader in
@@ -777,18 +851,24 @@ remembers_load modules page now memory what before after wanted loads same = λ 
     }
 
 pub load_remembered : {E : Type 0} (modules : ModulesState) (old page now : PageState) (memory : MemoryState) (loading : Loading) (what : Load) (before middle : List ℕ) (result : Result Bool E) → page ≡ old → loading ≡ page.loading → (loading ≡ kept.Nothing → ⊥)
-    → Loads modules loading what (memory_of page) memory before middle → memory_of now ≡ memory → OnOk result (RemembersLoads next_loads modules old now)
+    → Loads modules loading what (memory_of page) memory before middle → memory_of now ≡ memory → OnOk result (RemembersLoads wanted_loads modules old now)
 load_remembered modules old page now memory loading what before middle (Err fault) view is wanted loads same = tt
 load_remembered modules old page now memory loading what before middle (Ok made) view is wanted loads same =
-    subst (λ (p : PageState). RemembersLoads next_loads modules p now) view
+    subst (λ (p : PageState). RemembersLoads wanted_loads modules p now) view
     (remembers_load modules page now memory what before middle (λ e. wanted (is ∙ e)) (subst (λ (l : Loading). Loads modules l what (memory_of page) memory before middle) is loads) same)
 
 -- nothing is wanted
-pub nothing_remembered : (modules : ModulesState) (old page now : PageState) → page ≡ old → page.loading ≡ kept.Nothing → RemembersStill page now → RemembersLoads next_loads modules old now
-nothing_remembered modules old page now view none still =
-    subst (λ (p : PageState). RemembersLoads next_loads modules p now) view (λ s stands.
-    let wanted : s.wanted ≡ NoDocument = sym stands.wanted ∙ ap wanted_of none in
-    subst (λ (w : Wanted). Remembers (option_to_list (option_and_then (loaded_at s.modules) (wanted_path w s.modules))) page now) (sym wanted) (remembers_none stands.happened page now stands.truly still))
+none_loaded : (modules : Modules) (path : Option Path) → option_and_then (loadable_reading modules) path ≡ None → option_and_then (loaded_at modules) path ≡ None
+none_loaded modules None e = refl
+none_loaded modules (Some path) e = ap (option_and_then (loaded_as modules path)) e
+
+pub none_remembered : (may : Bool) (modules : ModulesState) (old page : PageState) → page ≡ old → MayLoad may modules page.loading → may ≡ false → RemembersLoads wanted_loads modules old old
+none_remembered true modules old page view may is = absurd cc
+none_remembered false modules old page view may is =
+    subst (λ (p : PageState). RemembersLoads wanted_loads modules p p) view (λ s stands.
+    let none = none_loaded s.modules (wanted_path (wanted_of page.loading) s.modules) (may s.modules stands.modules_are) in
+    subst (λ (w : Wanted). Remembers (option_to_list (option_and_then (loaded_at s.modules) (wanted_path w s.modules))) page page) stands.wanted
+    (subst (λ (o : Option Loaded). Remembers (option_to_list o) page page) (sym none) (remembers_none stands.happened page page stands.truly (refl, refl))))
 
 -- an event loads nothing
 pub event_remembered : {E : Type 0} (result : Result Bool E) (modules : ModulesState) (old page now : PageState) → RemembersLoads next_loads modules old page → RemembersStill page now → OnOk result (RemembersLoads next_loads modules old now)
@@ -796,6 +876,28 @@ event_remembered (Err fault) modules old page now loads still = tt
 event_remembered (Ok made) modules old page now loads still = λ s stands.
     let has = loads s stands in
     record { remembered_is = still.0 ∙ has.remembered_is; hits_are = still.1 ∙ has.hits_are }
+
+-- a data event that was handled loads nothing
+pub event_loads_none : (modules given_back : ModulesState) (old new : PageState) (before after : List ℕ) → MayMake true modules given_back next_data_event old new before after → RemembersStill old new → RemembersLoads next_loads modules old new
+event_loads_none modules given_back old new before after made still = λ s stands. by s stands s.data_event refl (made.makes s stands)
+  where
+    by : (s : State) → StandsFor old modules s → (b : Bool) → s.data_event ≡ b → HasMadeOf true new given_back made.text s (cond b (Some (data_event_step (record s { data_event = false }))) None) → Remembers (next_loads s) old new
+    by s stands true e has = subst (λ (b : Bool). Remembers (option_to_list (cond b None (wanted_loaded s))) old new) (sym e) (remembers_none stands.happened old new stands.truly still)
+    by s stands false e has = absurd has
+
+-- where none waits, the next dispatch makes the load of what is wanted
+no_event_waiting : (s : State) → next_data_event s ≡ None → s.data_event ≡ false
+no_event_waiting s e = by s.data_event refl e
+  where
+    by : (b : Bool) → s.data_event ≡ b → cond b (Some (data_event_step (record s { data_event = false }))) None ≡ None → s.data_event ≡ false
+    by true is e = absurd (cc e)
+    by false is e = is
+
+pub loads_remembered : (lent still_lent : ModulesState) (old page new : PageState) (before between : List ℕ) → MayMake false lent still_lent next_data_event old page before between → RemembersStill old page → RemembersLoads wanted_loads still_lent page new → RemembersLoads next_loads lent old new
+loads_remembered lent still_lent old page new before between waits still loads = λ s stands.
+    let none = none_made page still_lent waits.text s (next_data_event s) (waits.makes s stands) in
+    subst (λ (b : Bool). Remembers (option_to_list (cond b None (wanted_loaded s))) old new) (sym (no_event_waiting s none.0))
+    (remembers_both [] (wanted_loads s) old page new (remembers_none stands.happened old page stands.truly still) (loads s none.1.stands))
 
 -- the same of a call that spends the page where it found no memory
 pub remembers_after : {A E : Type 0} (loads : State → List Loaded) (lent : ModulesState) (old page now : PageState) (called result : Result A E) → OnOk called (RemembersLoads loads lent old page) → result ≡ called → now ≡ with_spent (is_err called) page

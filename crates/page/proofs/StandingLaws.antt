@@ -1,23 +1,26 @@
 -- What becomes of what is kept of a document that is wanted, where changes in modules are posted.
 use Rattle.std.proofs.Common.{◌≡◌, ◌∙◌, ℕ, ◌<◌, Bool, true, false, cond, eqb, ◌&&◌, List, [], ◌∷◌, ◌++◌, refl, sym, ap, ap₂, subst}
-use Rattle.std.specs.Prelude.{◌||◌, AllPairs, Option, Some, None, map}
+use Rattle.std.specs.Prelude.{◌||◌, AllPairs, Option, Some, None, map, option_to_list}
 use Rattle.std.specs.Option.{option_map_or}
 use Rattle.std.specs.List.{list_any}
 use Rattle.std.proofs.lemmas.Bool.{eq-eqb, eqb-true}
 use Rattle.multipart_entities.specs.declared.paths.Path.{Path}
+use Rattle.carousel_blocks.specs.DataEvents.{data_event, data_event_between, is_data_event}
 use Rattle.carousel_blocks.specs.declared.changes.Change.{Change}
 use Rattle.psi_tables.specs.declared.components.Component.{Component}
 use Rattle.psi_tables.specs.Components.{AreApart}
 use Rattle.module_locks.specs.Histories.Happening.{Fed, Mapped}
-use Rattle.module_locks.specs.Locks.{Modules, changes_by, kept_on, look_up, start_path, start_path_as, with_map, with_section}
+use Rattle.module_locks.specs.Locks.{Modules, changes_by, kept_on, look_up, module_changes_by, start_path, start_path_as, with_map, with_section}
 use Rattle.module_locks.specs.Standing.{ModulesState}
 use Rattle.module_locks.specs.Standing as of_modules
 use Rattle.module_store.specs.Copies.{KeptModule}
+use Rattle.module_store.specs.DataEvents.{data_event_by, event_id}
 use Rattle.module_store.specs.Resources.{start_component}
 use Rattle.module_store.specs.Resources as resources
 use Rattle.module_store.specs.Resources.Resource.{Found}
 use Rattle.module_store.specs.Staying.{tells_of, is_gone}
 use Rattle.module_store.specs.Store.{gone_by}
+use Rattle.module_store.specs.Store as store
 use Rattle.page.specs.declared.loading.Loading.{Loading}
 use Rattle.page.specs.declared.loading.Loading.TheVariants as kept
 use Rattle.page.specs.devices.Pendings.{IsCurrent, loading_behind, loading_behind_all, unread_loading, wanted_at, wanted_of}
@@ -40,7 +43,7 @@ wanted_anew false pending = refl
 wanted_behind : (component : ℕ) (change : Change) (loading : Loading) → wanted_of (loading_behind component change loading) ≡ wanted_of loading
 wanted_behind component change kept.Start = refl
 wanted_behind component change (kept.At path) = refl
-wanted_behind component change (kept.Pending pending) = wanted_anew (eqb pending.path.component component && eqb change.«module» pending.path.«module») pending
+wanted_behind component change (kept.Pending pending) = wanted_anew (is_data_event change || (eqb pending.path.component component && eqb change.«module» pending.path.«module»)) pending
 wanted_behind component change kept.Nothing = refl
 
 -- behind a change in a module of a component
@@ -55,6 +58,7 @@ stands_followed component change changes page modules s stands = record {
   reader = stands.reader;
   document = stands.document;
   wanted = wanted_behind component change page.loading ∙ stands.wanted;
+  data_event = stands.data_event;
   current = stands.current;
   clock = stands.clock;
   browser = stands.browser;
@@ -86,18 +90,20 @@ unread_current : (is_start : Bool) (path : Path) (modules : Modules) → IsCurre
 unread_current true path modules = tt
 unread_current false path modules = tt
 
--- one of them is of this module of that component
+-- one of them is of this module of that component, or is that of a data event
 abbrev is_told : ℕ → ℕ → List (ℕ × Change) → Bool
-is_told component number changes = list_any (λ change. eqb component change.0 && eqb change.1.«module» number) changes
+is_told component number changes =
+    list_any (λ change. is_data_event change.1 || (eqb component change.0 && eqb change.1.«module» number)) changes
 
 -- what is left of a document that was read
 abbrev left_of : Bool → PendingState → Loading
 left_of told pending = cond told (unread_loading pending.is_start pending.path) (kept.Pending pending)
 
--- it is forgotten exactly where one of them is of its module
+-- it is forgotten exactly where one of them is of its module, or is that of a data event
 pending_behind_all : (changes : List (ℕ × Change)) (pending : PendingState) → loading_behind_all changes (kept.Pending pending) ≡ left_of (is_told pending.path.component pending.path.«module» changes) pending
 pending_behind_all [] pending = refl
-pending_behind_all (change ∷ changes) pending = by (eqb pending.path.component change.0 && eqb change.1.«module» pending.path.«module») (pending_behind_all changes pending)
+pending_behind_all (change ∷ changes) pending =
+    by (is_data_event change.1 || (eqb pending.path.component change.0 && eqb change.1.«module» pending.path.«module»)) (pending_behind_all changes pending)
   where
     by : (b : Bool) → loading_behind_all changes (kept.Pending pending) ≡ left_of (is_told pending.path.component pending.path.«module» changes) pending
         → loading_behind_all changes (left_of b pending) ≡ left_of (b || is_told pending.path.component pending.path.«module» changes) pending
@@ -132,15 +138,50 @@ still_start_path : (one other : Modules) (is_start : Bool) (path : Path) → IsS
 still_start_path one other true path is same = is ∙ sym (same is)
 still_start_path one other false path is same = tt
 
--- where its component is the one, no change of the module is told
-told_in_component : (component number : ℕ) (changes : List Change) → is_told component number (map (λ change. (component, change)) changes) ≡ tells_of number changes
-told_in_component component number [] = refl
-told_in_component component number (change ∷ changes) =
-    ap₂ (λ (same later : Bool). (same && eqb change.«module» number) || later) (eq-eqb component component refl) (told_in_component component number changes)
+neither : (a b : Bool) → (a || b) ≡ false → (a ≡ false) × (b ≡ false)
+neither true b e = absurd (cc e)
+neither false b e = (refl, e)
 
+-- a test that holds leaves the other
+with_true : (a b : Bool) → a ≡ true → (a && b) ≡ false → b ≡ false
+with_true true b is e = e
+with_true false b is e = absurd (cc is)
+
+-- where none of them is told in its component, none is of the module
 untold : (component own number : ℕ) (changes : List Change) → is_told own number (map (λ change. (component, change)) changes) ≡ false → component ≡ own → tells_of number changes ≡ false
-untold component own number changes none same =
-    sym (told_in_component component number changes) ∙ subst (λ (c : ℕ). is_told c number (map (λ change. (component, change)) changes) ≡ false) (sym same) none
+untold component own number [] none same = refl
+untold component own number (change ∷ changes) none same =
+    let all = neither (is_data_event change || (eqb own component && eqb change.«module» number)) (is_told own number (map (λ change. (component, change)) changes)) none in
+    let its = neither (is_data_event change) (eqb own component && eqb change.«module» number) all.0 in
+    ap₂ (λ (here later : Bool). here || later)
+    (with_true (eqb own component) (eqb change.«module» number) (eq-eqb own component (sym same)) its.1)
+    (untold component own number changes all.1 same)
+
+-- and none is that of a data event
+none_of_events : (component own number : ℕ) (changes : List Change) → is_told own number (map (λ change. (component, change)) changes) ≡ false → list_any is_data_event changes ≡ false
+none_of_events component own number [] none = refl
+none_of_events component own number (change ∷ changes) none =
+    let all = neither (is_data_event change || (eqb own component && eqb change.«module» number)) (is_told own number (map (λ change. (component, change)) changes)) none in
+    let its = neither (is_data_event change) (eqb own component && eqb change.«module» number) all.0 in
+    ap₂ (λ (here later : Bool). here || later) its.0 (none_of_events component own number changes all.1)
+
+-- what is told of a data event is the change of one
+event_told : (before after : Option ℕ) (event : Change) → data_event_between before after ≡ Some event → is_data_event event ≡ true
+event_told None after event e = absurd (cc e)
+event_told (Some before) None event e = absurd (cc e)
+event_told (Some before) (Some after) event e = by (eqb before after) e
+  where
+    by : (same : Bool) → cond same None (Some (data_event before after)) ≡ Some event → is_data_event event ≡ true
+    by true e = absurd (cc e)
+    by false e =
+        let is : data_event before after ≡ event = cc e in
+        sym (ap is_data_event is)
+
+no_event_by : (o : Option Change) (more : List Change) → ((event : Change) → o ≡ Some event → is_data_event event ≡ true) → list_any is_data_event (option_to_list o ++ more) ≡ false → o ≡ None
+no_event_by None more is none = refl
+no_event_by (Some event) more is none =
+    let both = neither (is_data_event event) (list_any is_data_event more) none in
+    absurd (cc (is event refl, both.0))
 
 same_test : (a b : ℕ) (x y : Bool) → eqb a b ≡ x → eqb b a ≡ y → x ≡ y
 same_test a b true true e f = refl
@@ -148,18 +189,22 @@ same_test a b true false e f = sym (eq-eqb b a (sym (eqb-true a b e))) ∙ f
 same_test a b false true e f = sym e ∙ eq-eqb a b (sym (eqb-true b a f))
 same_test a b false false e f = refl
 
-gone_is_told : (tag number : ℕ) (gone : List (ℕ × Change)) → is_gone tag number gone ≡ is_told tag number gone
-gone_is_told tag number [] = refl
-gone_is_told tag number (change ∷ gone) =
-    ap₂ (λ (same later : Bool). (same && eqb change.1.«module» number) || later) (same_test change.0 tag (eqb change.0 tag) (eqb tag change.0) refl refl) (gone_is_told tag number gone)
+-- where none of them is told, the module isn't gone
+gone_untold : (tag number : ℕ) (gone : List (ℕ × Change)) → is_told tag number gone ≡ false → is_gone tag number gone ≡ false
+gone_untold tag number [] none = refl
+gone_untold tag number (change ∷ gone) none =
+    let all = neither (is_data_event change.1 || (eqb tag change.0 && eqb change.1.«module» number)) (is_told tag number gone) none in
+    let its = neither (is_data_event change.1) (eqb tag change.0 && eqb change.1.«module» number) all.0 in
+    ap₂ (λ (same later : Bool). (same && eqb change.1.«module» number) || later) (same_test change.0 tag (eqb change.0 tag) (eqb tag change.0) refl refl) (gone_untold tag number gone all.1)
+    ∙ ap (λ (b : Bool). b || false) its.1
 
--- what is found in a module stays, until a change of it is told
+-- what is found in a module stays, until a change of it is told or a data event comes
 abbrev FoundInSections : Type 0
 FoundInSections = (modules : Modules) (component : ℕ) (section : List ℕ) (path : Path) (bytes : List ℕ) → path.«module» < 65536 → look_up modules path ≡ Found bytes
-    → (component ≡ path.component → tells_of path.«module» (changes_by component section modules) ≡ false) → look_up (with_section component section modules) path ≡ Found bytes
+    → data_event_by component section modules.stored ≡ None → (component ≡ path.component → tells_of path.«module» (changes_by component section modules) ≡ false) → look_up (with_section component section modules) path ≡ Found bytes
 
 abbrev StartInSections : Type 0
-StartInSections = (modules : Modules) (component : ℕ) (section : List ℕ)
+StartInSections = (modules : Modules) (component : ℕ) (section : List ℕ) → data_event_by component section modules.stored ≡ None
     → (component ≡ start_component → tells_of 0 (changes_by component section modules) ≡ false) → start_path (with_section component section modules) ≡ start_path modules
 
 abbrev FoundInMaps : Type 0
@@ -176,10 +221,14 @@ pending_in_sections : FoundInSections → StartInSections → (modules : Modules
 pending_in_sections found start modules component section pending true e is = unread_current pending.is_start pending.path (with_section component section modules)
 pending_in_sections found start modules component section pending false e is =
     let none = untold component pending.path.component pending.path.«module» (changes_by component section modules) e in
+    let silent : data_event_by component section modules.stored ≡ None =
+    no_event_by (data_event_by component section modules.stored) (module_changes_by component section modules)
+    (event_told (event_id modules.stored) (event_id (store.with_section component section modules.stored)))
+    (none_of_events component pending.path.component pending.path.«module» (changes_by component section modules) e) in
     still_found modules (with_section component section modules) pending is
-    (found modules component section pending.path is.bytes is.module_fits is.found none)
+    (found modules component section pending.path is.bytes is.module_fits is.found silent none)
     (still_start_path modules (with_section component section modules) pending.is_start pending.path is.path_is
-    (λ path_is. start modules component section (λ same.
+    (λ path_is. start modules component section silent (λ same.
     subst (λ (number : ℕ). tells_of number (changes_by component section modules) ≡ false)
     (ap (λ (path : Path). path.«module») path_is ∙ (start_place modules).1)
     (none (same ∙ sym (ap (λ (path : Path). path.component) path_is ∙ (start_place modules).0))))))
@@ -200,7 +249,7 @@ pending_in_maps : FoundInMaps → StartInMaps → (modules : Modules) (component
     → is_told pending.path.component pending.path.«module» (gone_by components modules.stored) ≡ told → IsFound modules pending → IsCurrent (with_map components modules) (left_of told pending)
 pending_in_maps found start modules components pending true apart e is = unread_current pending.is_start pending.path (with_map components modules)
 pending_in_maps found start modules components pending false apart e is =
-    let none = gone_is_told pending.path.component pending.path.«module» (gone_by components modules.stored) ∙ e in
+    let none = gone_untold pending.path.component pending.path.«module» (gone_by components modules.stored) e in
     still_found modules (with_map components modules) pending is
     (found modules components pending.path is.bytes is.component_fits is.module_fits apart is.found none)
     (still_start_path modules (with_map components modules) pending.is_start pending.path is.path_is
@@ -228,6 +277,7 @@ stands_behind changes page old new modules s stands are follows current = record
   reader = stands.reader;
   document = stands.document;
   wanted = stands.wanted;
+  data_event = stands.data_event;
   current = current;
   clock = stands.clock;
   browser = stands.browser;

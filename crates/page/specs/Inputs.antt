@@ -1,7 +1,8 @@
 -- What comes to a page beside its turns: changes of modules, messages, keys, moments, random words and dates; and what it
 -- shows. (This project's own, after ARIB STD-B24, volume 2.)
-use Rattle.std.specs.Prelude.{ℕ, ℤ, Bool, List, [], ◌∷◌, ◌++◌, Option}
+use Rattle.std.specs.Prelude.{ℕ, ℤ, Bool, ◌||◌, List, [], ◌∷◌, ◌++◌, Option}
 use Rattle.std.specs.Option.{option_map_or}
+use Rattle.carousel_blocks.specs.DataEvents.{is_data_event}
 use Rattle.carousel_blocks.specs.declared.changes.Change.{Change}
 use Rattle.display_list.specs.Show.{clock_line}
 use Rattle.event_messages.specs.declared.messages.Message.{Message}
@@ -24,9 +25,17 @@ abbrev pub document_step : (Scene → Effect) → State → Step
 document_step effect s = option_map_or (λ d. step_of s (effect (scene_in s d))) s.document (still s)
 
 -- a change in a module of a component is told, and posted to the document's event items
-abbrev pub change_step : ℕ → Change → State → Step
-change_step component change s =
+abbrev pub told_step : ℕ → Change → State → Step
+told_step component change s =
     step_behind (line_of_change component change) (document_step (change_effect component change) s)
+
+-- a data event waits from its change on
+abbrev pub with_data_event : Change → State → State
+with_data_event change s = record s { data_event = s.data_event || is_data_event change }
+
+-- a change comes; that of a data event has no status and no lock, so it posts nothing (`law_of_data_events`)
+abbrev pub change_step : ℕ → Change → State → Step
+change_step component change s = told_step component change (with_data_event change s)
 
 -- changes in modules, each with its component, one behind the other
 abbrev pub changes_step : List (ℕ × Change) → State → Step

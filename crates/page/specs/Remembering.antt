@@ -37,9 +37,14 @@ loaded_as modules path (Err fault) = None
 abbrev pub loaded_at : Modules → Path → Option Loaded
 loaded_at modules path = option_and_then (loaded_as modules path) (loadable_reading modules path)
 
--- the load that the next dispatch makes of a document that isn't refused, where it makes one
+-- the load of the wanted document, where it can be made and isn't refused
+abbrev pub wanted_loaded : State → Option Loaded
+wanted_loaded s = option_and_then (loaded_at s.modules) (wanted_path s.wanted s.modules)
+
+-- the load that the next dispatch makes of a document that isn't refused, where it makes one: none where a data event
+-- waits
 abbrev pub next_loaded : State → Option Loaded
-next_loaded s = option_and_then (loaded_at s.modules) (wanted_path s.wanted s.modules)
+next_loaded s = if s.data_event then None else wanted_loaded s
 
 -- those behind the next dispatch, where there is one
 abbrev pub loads_behind : (State → List Loaded) → Option Step → List Loaded

@@ -11,10 +11,10 @@ use Rattle.es_reader.specs.Readers.{IsReader}
 use Rattle.browser_objects.specs.Calls.{BrowserParts, without_document}
 use Rattle.acting_documents.specs.Documents.{Document}
 use Rattle.acting_documents.specs.devices.Kept.{IsDocument, KeptDocument}
-use Rattle.acting_documents.specs.Beginnings.{load_effect}
-use Rattle.page.specs.devices.Acts.{Acts}
+use Rattle.acting_documents.specs.Beginnings.{data_event_effect, load_effect}
+use Rattle.page.specs.devices.Acts.{Acts, Ends}
 use Rattle.page.specs.Inputs.{changes_step}
-use Rattle.page.specs.Remembering.{Loaded, hits_among, next_loaded, remembered_behind}
+use Rattle.page.specs.Remembering.{Loaded, hits_among, next_loaded, remembered_behind, wanted_loaded}
 use Rattle.page.specs.devices.Memories.{MemoryState, RemembersTruly}
 use Rattle.page.specs.devices.Pendings.{IsCurrent, loading_behind_all, wanted_of}
 use Rattle.page.specs.State.{State, Step, still}
@@ -29,6 +29,8 @@ pub record PageState : Type 0 where
   pub browser : BrowserParts
   -- how many style values were worked out for the document
   pub worked : ℕ
+  -- whether a data event waits
+  pub data_event : Bool
   -- whether a call found no memory
   pub spent : Bool
   -- which loads it remembers, the last one in front, and how many of its loads were of a document that it
@@ -54,13 +56,14 @@ memory_of page =
 
 -- The page with these modules is in this state, and these changes in the modules, each with its component, are still to
 -- be posted to it. What it has read of a document that waits is what the modules have of it, unless one of them is of its
--- module.
+-- module, or of a data event.
 pub record StandsAmid (page : PageState) (modules : ModulesState) (changes : List (ℕ × Change))
     (s : State) : Type 0 where
   pub modules_are : of_modules.StandsFor modules s.modules
   pub reader : IsReader s.read
   pub document : AreDocuments page.document s.document
   pub wanted : wanted_of page.loading ≡ s.wanted
+  pub data_event : page.data_event ≡ s.data_event
   pub current : IsCurrent s.modules (loading_behind_all changes page.loading)
   pub clock : page.clock ≡ s.clock
   pub browser : page.browser ≡ s.browser
@@ -91,6 +94,10 @@ pub record Remembers (loads : List Loaded) (old new : PageState) : Type 0 where
 -- a device: the load of the next dispatch, where it makes one
 abbrev pub next_loads : State → List Loaded
 next_loads s = option_to_list (next_loaded s)
+
+-- a device: the load of the wanted document, where it can be made
+abbrev pub wanted_loads : State → List Loaded
+wanted_loads s = option_to_list (wanted_loaded s)
 
 -- whatever state the page was in, with the modules that were lent to it, it remembers these loads of it
 abbrev pub RemembersLoads : (State → List Loaded) → ModulesState → PageState → PageState → Type 0
@@ -195,6 +202,23 @@ behind_launch (Some path) page =
       browser = without_document page.browser;
       loading = At path;
     }
+
+-- Behind a document that ended there is none, and this is left of what belongs to the receiver, without its timers and its
+-- tables.
+abbrev pub behind_end : BrowserParts → PageState → PageState
+behind_end browser page =
+    record page { document = None; worked = 0; browser = without_document browser }
+
+-- the document, where one was there, ended for a data event
+abbrev pub EndsDocument : ModulesState → ModulesState → Option KeptDocument → PageState → PageState
+    → List ℕ → List ℕ → Type 0
+EndsDocument lent given_back None old new before after =
+    (new ≡ old) × (after ≡ before) × (given_back ≡ lent)
+EndsDocument lent given_back (Some document) old new before after =
+    (browser : BrowserParts)
+    × Ends data_event_effect old.clock document (record { browser = old.browser; modules = lent })
+    (record { browser = browser; modules = given_back }) before after
+    × (new ≡ behind_end browser old)
 
 -- a document that was loaded began, and launched another or none
 pub record Begins (lent given_back : ModulesState) (first : KeptDocument) (old new : PageState)

@@ -1,11 +1,11 @@
 -- What a page is at a moment (after the receiver of ARIB STD-B24 volume 2, in this project's own profile).
-use Rattle.std.specs.Prelude.{ℕ, List, [], ◌++◌, Option, Some, None}
+use Rattle.std.specs.Prelude.{ℕ, Bool, false, List, [], ◌++◌, Option, Some, None}
 use Rattle.module_locks.specs.Locks.{Modules, at_start}
 use Rattle.multipart_entities.specs.declared.paths.Path.{Path}
 use Rattle.es_reader.specs.Readers.{Reader}
 use Rattle.browser_objects.specs.Calls.{BrowserParts, without_document}
 use Rattle.document_stages.specs.Acting.{first_browser}
-use Rattle.acting_documents.specs.Beginnings.{unload_effect}
+use Rattle.acting_documents.specs.Beginnings.{data_event_effect, unload_effect}
 use Rattle.acting_documents.specs.Documents.{Document}
 use Rattle.acting_documents.specs.Runs.{Effect, Scene}
 
@@ -22,6 +22,8 @@ pub record State : Type 0 where
   -- the document that is there, and which is wanted
   pub document : Option Document
   pub wanted : Wanted
+  -- whether a data event waits
+  pub data_event : Bool
   -- the time, in milliseconds
   pub clock : ℕ
   -- the registers, the persistent area and the random words that are left, and the timers of the document
@@ -36,6 +38,7 @@ opening read area =
       read = read;
       document = None;
       wanted = StartDocument;
+      data_event = false;
       clock = 0;
       browser = first_browser area;
       modules = at_start;
@@ -78,11 +81,11 @@ goes_on s scene =
     }
 
 -- Behind a document that ended there is none: its timers and its tables end with it, and this one is wanted. The locks stay.
-abbrev pub without_document_for : Path → State → Scene → State
-without_document_for path s scene =
+abbrev pub without_document_for : Wanted → State → Scene → State
+without_document_for wanted s scene =
     record s {
       document = None;
-      wanted = DocumentAt path;
+      wanted = wanted;
       browser = without_document scene.browser;
       modules = scene.modules;
     }
@@ -91,7 +94,13 @@ without_document_for path s scene =
 abbrev pub gives_way : Path → State → Scene → Step
 gives_way path s scene =
     let e = unload_effect scene in
-    record { state = without_document_for path s e.scene; text = e.text }
+    record { state = without_document_for (DocumentAt path) s e.scene; text = e.text }
+
+-- A document ends at a data event: the start document is wanted.
+abbrev pub ends_for_data_event : State → Scene → Step
+ends_for_data_event s scene =
+    let e = data_event_effect scene in
+    record { state = without_document_for StartDocument s e.scene; text = e.text }
 
 -- what becomes of a document that goes on or has launched another
 abbrev pub stays_or_goes : Option Path → State → Scene → Step

@@ -5,7 +5,8 @@ ghost use Rattle.std.specs.Io.{StartsWith};
 ghost use Rattle.std.specs.Prelude.{◌≡◌, ◌<◌, ◌^◌, IfOk, OnOk};
 ghost use Rattle.acting_documents.specs.Notices.{IsInTime, notice_effect};
 ghost use Rattle.acting_documents.specs.devices.Doings.{Does};
-ghost use Rattle.page.specs.devices.Acts.{Acts, ActsApart, ActsLent, GivesWay, with_lent, task_effect};
+ghost use Rattle.acting_documents.specs.Beginnings.{data_event_effect};
+ghost use Rattle.page.specs.devices.Acts.{Acts, ActsApart, ActsLent, Ends, GivesWay, with_lent, task_effect};
 
 use acting_documents::{ActingDocument, Notice};
 use bml_bytes::NoMemory;
@@ -42,6 +43,26 @@ pub fn act(
     let acted = act_lent(document, task, out);
     exchange(document, browser, modules, clock);
     acted
+}
+
+/// Lets a document end for a data event.
+pub fn end_for_data_event(
+    document: &mut ActingDocument,
+    browser: &mut BrowserState,
+    modules: &mut Modules,
+    clock: u64,
+    out: &mut Vec<u8>,
+) -> Result<(), NoMemory>
+    requires { clock < 2 ^ 62 }
+    ensures ends { OnOk result (Ends data_event_effect clock document.old
+        (record { browser = browser.old; modules = modules.old })
+        (record { browser = browser.new; modules = modules.new }) out.old.items out.new.items) }
+    ensures grows { StartsWith out.new.items out.old.items }
+{
+    exchange(document, browser, modules, clock);
+    let ended = document.end_for_data_event(out);
+    exchange(document, browser, modules, clock);
+    ended
 }
 
 // Exchanges what a document is lent with what stands there, at this time.

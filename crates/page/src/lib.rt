@@ -3,7 +3,8 @@
 //! A page is a document that acts, or one that is wanted, with the time, and with what belongs to
 //! the receiver: the registers, the persistent area and the random words, with the timers of the
 //! document, and the modules of the service with the locks on them (`specs/State.antt`).
-//! [`Page::turn`] makes dispatches, each of which loads the wanted document (`specs/Loading.antt`)
+//! [`Page::turn`] makes dispatches, each of which handles a data event, which ends the document, or
+//! loads the wanted document (`specs/Loading.antt`),
 //! or lets the document that acts handle the event that waits longest: `specs/Dispatches.antt` says
 //! which, and the crate `acting_documents` what a document does. A document that launches another
 //! one ends, and that one is wanted. `specs/Inputs.antt` has what comes to a page beside its turns,
@@ -23,5 +24,5 @@ mod memory;
 mod pages;
 mod pending;
 
-pub use crate::laws::law_of_posted_changes;
+pub use crate::laws::{law_of_data_events, law_of_posted_changes};
 pub use crate::pages::Page;

@@ -10,7 +10,7 @@ ghost use Rattle.module_locks.specs.Locks.{look_up};
 ghost use Rattle.module_locks.specs.Standing.{ForModules};
 ghost use Rattle.module_store.specs.Resources.Resource.{Found};
 ghost use Rattle.page.specs.devices.Memories.{HasPlaces};
-ghost use Rattle.page.specs.devices.Pendings.{KnowsItsPlace, Loads, LoadsRemembered, LoadsUnread, is_told_by as told_by, loading_behind, unread_loading, wanted_anew};
+ghost use Rattle.page.specs.devices.Pendings.{KnowsItsPlace, Loads, MayLoad, is_there, LoadsRemembered, LoadsUnread, is_told_by as told_by, loading_behind, unread_loading, wanted_anew};
 
 use crate::lines::push_refuse_line;
 use crate::memory::Memory;
@@ -61,6 +61,22 @@ impl Loading {
         }
     }
 
+    /// Whether a load may come of it: a document is wanted, and is found, or was read. It is looked at
+    /// in place, so that a turn in which nothing is loaded moves nothing.
+    pub fn may_load(&self, modules: &Modules) -> Result<bool, NoMemory>
+        ensures { IfOk result (λ may. MayLoad may modules.now self.now) }
+    {
+        match self {
+            Loading::Start => {
+                let path = modules.start_path()?;
+                Ok(is_found(modules, &path))
+            }
+            Loading::At(path) => Ok(is_found(modules, path)),
+            Loading::Pending(_) => Ok(true),
+            Loading::Nothing => Ok(false),
+        }
+    }
+
     /// Loads the document, where one is wanted, is found, and nothing that it needs is waited for;
     /// or refuses it. Appends the lines that tell it. A document that is remembered isn't read, and
     /// one that is loaded is remembered.
@@ -84,7 +100,7 @@ impl Loading {
     }
 
     /// Takes a change in a module of a component: a document that was read is wanted anew, where
-    /// its module changed.
+    /// its module changed, and at a data event, at which locks end.
     pub fn follow(&mut self, component: u8, change: &Change)
         ensures { self.new ≡ loading_behind component change.now self.old }
     {
@@ -104,18 +120,26 @@ impl Loading {
         }
     }
 
-    // Whether a document was read, and this change in a component is of its module.
+    // Whether a document was read, and this change in a component is of its module, or of a data event.
     fn is_told_by(&self, component: u8, change: &Change) -> bool
         ensures { result ≡ told_by component change.now self.now }
     {
         match self {
             Loading::Pending(pending) => {
                 let path = pending.path();
-                path.component == component && change.module == path.module
+                change.is_data_event()
+                    || (path.component == component && change.module == path.module)
             }
             Loading::Start | Loading::At(_) | Loading::Nothing => false,
         }
     }
+}
+
+// Whether something is found at a path.
+fn is_found(modules: &Modules, path: &Path) -> bool
+    ensures { ForModules modules.now (λ modules. result ≡ is_there (look_up modules path.now)) }
+{
+    matches!(modules.resource(path), Look::Found(_))
 }
 
 // Loads the start document, which is found at the path that it has now.

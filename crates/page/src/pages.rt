@@ -1,22 +1,23 @@
 //! The page: what becomes of the documents that come, and of keys and the clock.
 
 ghost use Rattle.std.specs.Io.{StartsWith};
-ghost use Rattle.std.specs.Prelude.{◌≡◌, ◌+◌, ◌<◌, ◌≤◌, ◌≤ℤ◌, ◌^◌, ◌∷◌, ◌++◌, ℕ, pos, List, [], false, true, None, IfOk, IsErr, OnErr, OnOk, is_err};
+ghost use Rattle.std.specs.Prelude.{◌≡◌, ◌+◌, ◌<◌, ◌≤◌, ◌≤ℤ◌, ◌^◌, ◌||◌, ◌∷◌, ◌++◌, ℕ, pos, List, [], false, true, None, IfOk, IsErr, OnErr, OnOk, is_err};
 ghost use Rattle.acting_documents.specs.Notices.{IsInTime, notice_effect};
 ghost use Rattle.es_reader.specs.Readers.{Reader, IsReader};
+ghost use Rattle.carousel_blocks.specs.DataEvents.{is_data_event};
 ghost use Rattle.event_queue.specs.Timers.{least_moment};
 ghost use Rattle.module_locks.specs.Locks.{at_start};
 ghost use Rattle.module_locks.specs.Standing.{ModulesState};
 ghost use Rattle.module_locks.specs.Standing as of_modules;
-ghost use Rattle.page.specs.Dispatches.{dispatch as spec_dispatch, next_event, next_load, turn as spec_turn};
-ghost use Rattle.page.specs.Inputs.{change_step, display_of, document_step, due_step, key_step, message_step, with_date, with_random};
+ghost use Rattle.page.specs.Dispatches.{dispatch as spec_dispatch, next_data_event, next_event, next_load, turn as spec_turn};
+ghost use Rattle.page.specs.Inputs.{display_of, document_step, due_step, key_step, message_step, told_step, with_date, with_random};
 ghost use Rattle.page.specs.devices.Pendings.{loading_behind};
-ghost use Rattle.page.specs.Standing.{Begins, IsSpent, KeepsBeside, Makes, MakesAmid, MakesWith, MayMake, Posts, StandsFor, TakesLoad, behind_launch, page_area, page_owed, Remembers, RemembersLoads, RemembersStill, memory_of, next_loads};
+ghost use Rattle.page.specs.Standing.{Begins, EndsDocument, IsSpent, KeepsBeside, Makes, MakesAmid, MakesWith, MayMake, Posts, StandsFor, TakesLoad, behind_end, behind_launch, page_area, page_owed, Remembers, RemembersLoads, RemembersStill, memory_of, next_loads, wanted_loads};
 ghost use Rattle.page.specs.Remembering.{loads_of_turn};
 ghost use Rattle.page.specs.State.{State, opening};
 ghost use Rattle.page.specs.declared.loading.Loading.TheVariants as kept;
 
-use crate::acts::{Task, act, tell};
+use crate::acts::{Task, act, end_for_data_event, tell};
 use crate::loading::{Load, Loading};
 use crate::memory::Memory;
 use acting_documents::{ActingDocument, Notice};
@@ -45,6 +46,8 @@ pub struct Page {
     document: Option<ActingDocument>,
     loading: Loading,
     memory: Memory,
+    /// Whether a data event waits.
+    data_event: bool,
     clock: u64,
     browser: BrowserState,
     spent: bool,
@@ -61,6 +64,7 @@ impl Model for Page {
       clock = p.clock;
       browser = p.browser;
       worked = option_map_or (λ document. document.worked) p.document 0;
+      data_event = p.data_event;
       spent = p.spent;
       remembered = p.memory.remembered;
       hits = p.memory.hits;
@@ -92,6 +96,7 @@ impl Page {
             document: None,
             loading: Loading::Start,
             memory,
+            data_event: false,
             clock: 0,
             browser,
             spent: false,
@@ -99,7 +104,8 @@ impl Page {
     }
 
     /// Takes a change in a module of a component: appends its line, and posts the events of the
-    /// event items that are told of it. Those behind it are still to be posted.
+    /// event items that are told of it. A data event waits from its change on. Changes behind it are
+    /// still to be posted.
     pub fn post_change(
         &mut self,
         component: u8,
@@ -119,8 +125,20 @@ impl Page {
     {
         self.refuse_spent()?;
         self.loading.follow(component, change);
+        self.note_data_event(change);
         let told = self.tell_change(component, change, out);
         self.spent_by(told)
+    }
+
+    // A data event waits from its change on.
+    fn note_data_event(&mut self, change: &Change)
+        ensures { self.new ≡ record self.old {
+          data_event = self.old.data_event || is_data_event change.now;
+        } }
+    {
+        if change.is_data_event() {
+            self.data_event = true;
+        }
     }
 
     // Appends the line of a change, and posts the events of the event items that are told of it.
@@ -130,7 +148,7 @@ impl Page {
         change: &Change,
         out: &mut Vec<u8>,
     ) -> Result<(), NoMemory>
-        ensures told { OnOk result (MakesAmid (change_step component change.now)
+        ensures told { OnOk result (MakesAmid (told_step component change.now)
             self.old self.new out.old.items out.new.items) }
         ensures loading { self.new.loading ≡ self.old.loading }
         ensures clock { self.new.clock ≡ self.old.clock }
@@ -274,8 +292,9 @@ impl Page {
         self.browser.date = Some((day, second, self.clock));
     }
 
-    /// Makes a turn: at most 256 dispatches, each of which loads the wanted document, where it can
-    /// be loaded, or else handles the event that waits longest; and appends what they print. The
+    /// Makes a turn: at most 256 dispatches, each of which handles the data event that waits, or else
+    /// loads the wanted document, where it can be loaded, or else handles the event that waits
+    /// longest; and appends what they print. The
     /// modules are those of the page's earlier turns, whose changes since were all posted. Scripts
     /// may lock and unlock some of them. A load that is of a document which the page remembers
     /// doesn't read it again, and changes no line.
@@ -410,10 +429,51 @@ impl Page {
         ensures grows { StartsWith out.new.items out.old.items }
         ensures remembers { OnOk result (RemembersLoads next_loads modules.old self.old self.new) }
     {
+        if self.handle_data_event(modules, out)? {
+            return Ok(true);
+        }
         if self.load(modules, out)? {
             return Ok(true);
         }
         self.handle_next(modules, out)
+    }
+
+    // Handles the data event that waits, and tells whether one did: the document that is there ends,
+    // and the start document is wanted.
+    fn handle_data_event(
+        &mut self,
+        modules: &mut Modules,
+        out: &mut Vec<u8>,
+    ) -> Result<bool, NoMemory>
+        ensures made { IfOk result (λ made. MayMake made modules.old modules.new next_data_event
+            self.old self.new out.old.items out.new.items) }
+        ensures clock { self.new.clock ≡ self.old.clock }
+        ensures grows { StartsWith out.new.items out.old.items }
+        ensures remembers { RemembersStill self.old self.new }
+    {
+        if !self.data_event {
+            return Ok(false);
+        }
+        self.data_event = false;
+        self.end_document(modules, out)?;
+        drop(mem::replace(&mut self.loading, Loading::Start));
+        Ok(true)
+    }
+
+    // Ends the document for a data event, where there is one.
+    fn end_document(&mut self, modules: &mut Modules, out: &mut Vec<u8>) -> Result<(), NoMemory>
+        ensures ended { OnOk result (EndsDocument modules.old modules.new self.old.document
+            self.old self.new out.old.items out.new.items) }
+        ensures clock { self.new.clock ≡ self.old.clock }
+        ensures grows { StartsWith out.new.items out.old.items }
+        ensures remembers { RemembersStill self.old self.new }
+    {
+        let Some(document) = &mut self.document else {
+            return Ok(());
+        };
+        end_for_data_event(document, &mut self.browser, modules, self.clock, out)?;
+        self.drop_document();
+        Ok(())
     }
 
     // Lets the document that acts handle the event that waits longest, and tells whether there was
@@ -444,12 +504,13 @@ impl Page {
             self.old self.new out.old.items out.new.items) }
         ensures clock { self.new.clock ≡ self.old.clock }
         ensures grows { StartsWith out.new.items out.old.items }
-        ensures remembers { OnOk result (RemembersLoads next_loads modules.old self.old self.new) }
+        ensures remembers { OnOk result
+            (RemembersLoads wanted_loads modules.old self.old self.new) }
     {
-        let loading = mem::replace(&mut self.loading, Loading::Nothing);
-        if let Loading::Nothing = loading {
+        if !self.loading.may_load(modules)? {
             return Ok(false);
         }
+        let loading = mem::replace(&mut self.loading, Loading::Nothing);
         let came = loading.load(self.alloc, modules, &mut self.memory, out)?;
         self.take_load(came, modules, out)
     }
@@ -524,9 +585,16 @@ impl Page {
         let Some(path) = launched else {
             return;
         };
+        self.drop_document();
+        drop(mem::replace(&mut self.loading, Loading::At(path)));
+    }
+
+    // The document is gone, with its timers and its tables.
+    fn drop_document(&mut self)
+        ensures { self.new ≡ behind_end self.old.browser self.old }
+    {
         drop(mem::replace(&mut self.document, None));
         self.browser.end_document(self.alloc);
-        drop(mem::replace(&mut self.loading, Loading::At(path)));
     }
 
     // Appends the line of the clock, and what the document shows.

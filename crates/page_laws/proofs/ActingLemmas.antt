@@ -34,7 +34,7 @@ use Rattle.dom_objects.specs.Reads.{read_value}
 use Rattle.dom_objects.specs.Writes.{Change, change_of, changed_items, changed_tree}
 use Rattle.dom_objects.specs.Writes.Change.{NoChange, ChangesText, ChangesAttribute, ChangesStyle}
 use Rattle.dom_objects.specs.declared.current_events.CurrentEvent.{CurrentEvent}
-use Rattle.document_stages.specs.Acting.{Acting, CallAnswer, with_action, acting_with_timers, with_active, with_first_events, browser_value, document_call, with_due_events, element_call, first_focus, focus_on, with_focus_asked, gives, is_subscription, is_unload, launch, without_focus_of, with_focus_moved, no_focus, node_id, node_member, with_node_written, not_callable, parts_of, with_event, with_event_for, member_value, register_value, with_text_written, with_timer_fired, with_timer_event, with_timer_settled, with_timers_fired, with_browser, with_focus, with_line, with_member_set}
+use Rattle.document_stages.specs.Acting.{Acting, CallAnswer, with_action, acting_with_timers, with_active, with_first_events, browser_value, document_call, with_due_events, element_call, first_focus, focus_on, with_focus_asked, gives, is_subscription, is_ending, launch, without_focus_of, with_focus_moved, no_focus, node_id, node_member, with_node_written, not_callable, parts_of, with_event, with_event_for, member_value, register_value, with_text_written, with_timer_fired, with_timer_event, with_timer_settled, with_timers_fired, with_browser, with_focus, with_line, with_member_set}
 use Rattle.document_stages.specs.EventLines.{launch_line}
 use Rattle.page_laws.specs.Soundness.{AreTimers, has_element, has_node, is_good, is_good_event, is_good_place, names_well}
 use Rattle.page_laws.proofs.EventItemLemmas.{AreGoodItems, subscribed-good}
@@ -141,6 +141,7 @@ event-same items now n (events.Fired node component message) = element-same item
 event-same items now n (events.Updated node status) = element-same items now n node
 event-same items now n (events.Locked node status) = element-same items now n node
 event-same items now n (events.Button node) = element-same items now n node
+event-same items now n (events.DataEvent node) = element-same items now n node
 event-same items now n _ = refl
 
 module _ (laws : TreeLaws) (items : List Item) where
@@ -502,7 +503,7 @@ module _ (laws : TreeLaws) (items : List Item) where
     pub launch-sound : (path : Path) (a : Acting) → IsSoundActing items a
         → IsSoundAnswer items heap (launch path a heap)
     launch-sound path a s =
-        chosen-sound (is_unload a.event.event) _ _ (gives-sound _ a refl s)
+        chosen-sound (is_ending a.event.event) _ _ (gives-sound _ a refl s)
         (record {
           answer = tt;
           acting = line-sound (launch_line path) (Some path) a s;

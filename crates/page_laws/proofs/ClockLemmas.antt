@@ -1,6 +1,6 @@
 -- Turns leave the clock as it is, and the modules of the service. Moments bring it to themselves.
-use Rattle.std.proofs.Common.{◌≡◌, ℕ, zero, suc, Option, Some, None, refl, ◌∙◌}
-use Rattle.std.specs.Prelude.{IfSome, Result, Ok, Err, option_and_then, option_map}
+use Rattle.std.proofs.Common.{◌≡◌, ℕ, zero, suc, Option, Some, None, refl, ◌∙◌, Bool, true, false}
+use Rattle.std.specs.Prelude.{IfSome, Result, Ok, Err, option_and_then, option_map, if◌then◌else◌}
 use Rattle.std.specs.Option.{option_map_or, option_or}
 use Rattle.bml_reader.specs.declared.faults.DocFault.{DocFault}
 use Rattle.multipart_entities.specs.declared.paths.Path.{Path}
@@ -11,12 +11,12 @@ use Rattle.acting_documents.specs.Beginnings.{load_effect}
 use Rattle.acting_documents.specs.Documents.{Document}
 use Rattle.acting_documents.specs.Handling.{due_effect, event_effect, without_first}
 use Rattle.acting_documents.specs.Runs.{Effect}
-use Rattle.page.specs.Dispatches.{dispatch, dispatches, event_in, load_at, most_dispatches, next_and, next_event, next_load, turn}
+use Rattle.page.specs.Dispatches.{dispatch, dispatches, event_in, load_at, most_dispatches, next_and, next_event, next_load, turn, data_event_step, next_data_event}
 use Rattle.page.specs.Inputs.{due_step, with_clock}
 use Rattle.page.specs.Loading.{load, loadable_reading, document_of_draft, wanted_path}
-use Rattle.page.specs.State.{State, Step, scene_in, stays_or_goes, step_of, still}
-use Rattle.page.specs.State.Wanted.{NoDocument}
-use Rattle.page_laws.proofs.ServiceLemmas.{handled-service, load-service, unload-service}
+use Rattle.page.specs.State.{State, Step, scene_in, stays_or_goes, step_of, still, ends_for_data_event}
+use Rattle.page.specs.State.Wanted.{NoDocument, StartDocument}
+use Rattle.page_laws.proofs.ServiceLemmas.{handled-service, load-service, unload-service, data_event-service}
 
 -- a step that is there or not leaves the clock
 abbrev MayLeave : State → Option Step → Type 0
@@ -59,10 +59,27 @@ next_event-clock s = by s.document
     by None = tt
     by (Some d) = of d (first_of d.queue)
 
+next_data_event-clock : (s : State) → MayLeave s (next_data_event s)
+next_data_event-clock s = by s.data_event
+  where
+    now : State
+    now = record s { data_event = false }
+
+    of : (document : Option Document) → (option_map_or
+        (λ d. ends_for_data_event now (scene_in now d)) document
+        (still (record now { wanted = StartDocument }))).state.clock ≡ s.clock
+    of None = refl
+    of (Some d) = refl
+
+    by : (waits : Bool) → MayLeave s (if waits then Some (data_event_step now) else None)
+    by true = of s.document
+    by false = tt
+
 dispatch-clock : (s : State) → MayLeave s (dispatch s)
 unfolding dispatch
 dispatch-clock s =
-    either (next_load s) (next_event s) (next_load-clock s) (next_event-clock s)
+    either (next_data_event s) (option_or (next_load s) (next_event s)) (next_data_event-clock s)
+    (either (next_load s) (next_event s) (next_load-clock s) (next_event-clock s))
   where
     either : (one other : Option Step) → MayLeave s one → MayLeave s other
         → MayLeave s (option_or one other)
@@ -144,10 +161,27 @@ next_event-service s = by s.document
     by None = tt
     by (Some d) = of d (first_of d.queue)
 
+next_data_event-service : (s : State) → MayServe s (next_data_event s)
+next_data_event-service s = by s.data_event
+  where
+    now : State
+    now = record s { data_event = false }
+
+    of : (document : Option Document) → (option_map_or
+        (λ d. ends_for_data_event now (scene_in now d)) document
+        (still (record now { wanted = StartDocument }))).state.modules.stored ≡ s.modules.stored
+    of None = refl
+    of (Some d) = data_event-service (scene_in now d)
+
+    by : (waits : Bool) → MayServe s (if waits then Some (data_event_step now) else None)
+    by true = of s.document
+    by false = tt
+
 dispatch-service : (s : State) → MayServe s (dispatch s)
 unfolding dispatch
 dispatch-service s =
-    either (next_load s) (next_event s) (next_load-service s) (next_event-service s)
+    either (next_data_event s) (option_or (next_load s) (next_event s)) (next_data_event-service s)
+    (either (next_load s) (next_event s) (next_load-service s) (next_event-service s))
   where
     either : (one other : Option Step) → MayServe s one → MayServe s other
         → MayServe s (option_or one other)

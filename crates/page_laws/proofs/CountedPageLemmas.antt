@@ -1,6 +1,6 @@
 -- As many events of each timer of a page are out as wait: turns and what comes beside them.
-use Rattle.std.proofs.Common.{◌≡◌, ℕ, zero, suc, List, [], ◌∷◌, Option, Some, None, refl, sym, ◌∙◌, ap, subst, ◌+◌}
-use Rattle.std.specs.Prelude.{IfSome, Result, Ok, Err, drop, option_and_then, option_map}
+use Rattle.std.proofs.Common.{◌≡◌, ℕ, zero, suc, List, [], ◌∷◌, Option, Some, None, refl, sym, ◌∙◌, ap, subst, ◌+◌, Bool, true, false}
+use Rattle.std.specs.Prelude.{IfSome, Result, Ok, Err, drop, option_and_then, option_map, if◌then◌else◌}
 use Rattle.std.specs.Option.{option_map_or, option_or}
 use Rattle.bml_reader.specs.declared.faults.DocFault.{DocFault}
 use Rattle.carousel_blocks.specs.declared.changes.Change.{Change}
@@ -14,11 +14,11 @@ use Rattle.acting_documents.specs.Beginnings.{load_effect}
 use Rattle.acting_documents.specs.Documents.{Document}
 use Rattle.acting_documents.specs.Handling.{change_effect, due_effect, event_effect, key_effect, message_effect, without_first}
 use Rattle.acting_documents.specs.Runs.{Effect, Scene}
-use Rattle.page.specs.Dispatches.{dispatch, dispatches, event_in, load_at, most_dispatches, next_and, next_event, next_load, turn}
-use Rattle.page.specs.Inputs.{change_step, changes_step, document_step, due_step, with_clock}
+use Rattle.page.specs.Dispatches.{dispatch, dispatches, event_in, load_at, most_dispatches, next_and, next_event, next_load, turn, data_event_step, next_data_event}
+use Rattle.page.specs.Inputs.{change_step, changes_step, document_step, due_step, with_clock, with_data_event}
 use Rattle.page.specs.Loading.{load, loadable_reading, document_of_draft, wanted_path}
-use Rattle.page.specs.State.{State, Step, opening, scene_in, stays_or_goes, step_of, still}
-use Rattle.page.specs.State.Wanted.{NoDocument}
+use Rattle.page.specs.State.{State, Step, opening, scene_in, stays_or_goes, step_of, still, ends_for_data_event}
+use Rattle.page.specs.State.Wanted.{NoDocument, StartDocument}
 use Rattle.psi_tables.specs.declared.services.Selection.{Selection}
 use Rattle.receiver_core.specs.State as receiver
 use Rattle.page_laws.specs.Counts.{AreCounted, waiting_events}
@@ -142,10 +142,31 @@ next_event-may s h = by s.document refl
     by None there = tt
     by (Some d) there = of d there (first_of d.queue) refl
 
+-- a data event ends the document
+next_data_event-may : (s : State) → PageCounted s → MayCounted (next_data_event s)
+next_data_event-may s h = by s.data_event
+  where
+    now : State
+    now = record s { data_event = false }
+
+    of : (document : Option Document) → s.document ≡ document → PageCounted (option_map_or
+        (λ d. ends_for_data_event now (scene_in now d)) document
+        (still (record now { wanted = StartDocument }))).state
+    of None e = record {
+      counted = h.counted;
+      wanted = subst (λ (o : Option Document). IfSome o (λ d. StartDocument ≡ NoDocument)) (sym e) tt;
+    }
+    of (Some d) e = record { counted = none-counted 1; wanted = tt }
+
+    by : (waits : Bool) → MayCounted (if waits then Some (data_event_step now) else None)
+    by true = of s.document refl
+    by false = tt
+
 dispatch-may : (s : State) → PageCounted s → MayCounted (dispatch s)
 unfolding dispatch
 dispatch-may s h =
-    either (next_load s) (next_event s) (next_load-may s h) (next_event-may s h)
+    either (next_data_event s) (option_or (next_load s) (next_event s)) (next_data_event-may s h)
+    (either (next_load s) (next_event s) (next_load-may s h) (next_event-may s h))
   where
     either : (one other : Option Step) → MayCounted one → MayCounted other
         → MayCounted (option_or one other)
@@ -203,7 +224,8 @@ changes-counted : (changes : List (ℕ × Change)) (s : State) → PageCounted s
 changes-counted changes s h =
     each_step-kept PageCounted (λ (change : ℕ × Change). change_step change.0 change.1)
     (λ change s h. document_step-counted (change_effect change.0 change.1)
-    (change-counted change.0 change.1) s h)
+    (change-counted change.0 change.1) (with_data_event change.1 s)
+    (like-counted s (with_data_event change.1 s) refl refl refl h))
     changes s h
 
 -- ---- all of them

@@ -152,6 +152,9 @@ handled-counted (events.Locked item status) s h =
 handled-counted (events.Button item) s h =
     handler-counted (events.Button item) item s
     (others-counted (events.Button item) s (λ n. refl) h)
+handled-counted (events.DataEvent item) s h =
+    handler-counted (events.DataEvent item) item s
+    (others-counted (events.DataEvent item) s (λ n. refl) h)
 
 -- ---- messages, changes of modules, keys and moments
 

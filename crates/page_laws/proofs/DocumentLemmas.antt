@@ -1,9 +1,9 @@
 -- Documents stay sound: their scripts, handlers and timers, their default actions, and what keys post.
 use Rattle.std.proofs.Common.{◌≡◌, ℕ, ◌<◌, Bool, true, false, List, [], ◌∷◌, length, Option, Some, None, refl, ◌∙◌, arith}
-use Rattle.std.specs.Prelude.{◌==◌, if◌then◌else◌, map, option_and_then}
+use Rattle.std.specs.Prelude.{◌==◌, if◌then◌else◌, All, map, option_and_then, filter}
 use Rattle.std.specs.Option.{option_map_or}
 use Rattle.std.proofs.lemmas.Bool.{lt-ltb}
-use Rattle.std.proofs.lemmas.List.Elements.{All-nil, All-weaker}
+use Rattle.std.proofs.lemmas.List.Elements.{All-nil, All-weaker, All-take, All-map, All-filter, All-head, All-tail}
 use Rattle.dom_tree.specs.Items.{Item}
 use Rattle.dom_tree.specs.Walks.{IsTree, places}
 use Rattle.carousel_blocks.specs.declared.changes.Change.{Change}
@@ -33,11 +33,11 @@ use Rattle.document_stages.specs.Hosting.{HostParts}
 use Rattle.display_list.specs.Bodies.{body_of, is_body}
 use Rattle.acting_documents.specs.Documents.{Document, handler_in, passes}
 use Rattle.acting_documents.specs.Handling.{body_in, change_effect, without_active, default_action, due_effect, focus_of, event_effect, event_effect_at, key_effect, kind_of, message_effect, run_handler, timer_effect, with_timer_taken}
-use Rattle.acting_documents.specs.Beginnings.{begin, load_effect, run_scripts, script_places, unload_effect, without_waiting}
+use Rattle.acting_documents.specs.Beginnings.{begin, load_effect, run_scripts, script_places, unload_effect, without_waiting, data_event_effect, items_effect}
 use Rattle.page.specs.Loading.{document_of_draft}
 use Rattle.acting_documents.specs.Runs.{Effect, Scene, acting_in, and_then, effect_of_change, effect_of_end, end_of_run, host_parts_in, most_steps, no_event, no_effect, run_function, run_program, unless_launched, with_acting, with_host_parts, with_world}
-use Rattle.page_laws.specs.Soundness.{AreTimers, IsGoodHandler, IsSoundDocument, is_good, is_good_event, is_good_in, is_good_place, limit_of}
-use Rattle.page_laws.proofs.ActingLemmas.{IsSoundActing, TreeLaws, acted-sound, begun-sound, due-sound, element-same, event-same, good-same, place-same}
+use Rattle.page_laws.specs.Soundness.{AreTimers, IsGoodHandler, IsSoundDocument, is_good, is_good_event, is_good_in, is_good_place, limit_of, has_element}
+use Rattle.page_laws.proofs.ActingLemmas.{IsSoundActing, TreeLaws, acted-sound, begun-sound, due-sound, element-same, event-same, good-same, place-same, AreAsFirst}
 use Rattle.page_laws.proofs.EventItemLemmas.{AreGoodItems, ItemNodes, first-good, moved-good}
 use Rattle.page_laws.proofs.HandlerLemmas.{read-handlers}
 use Rattle.page_laws.proofs.HostedLemmas.{HasFewLocks, HostLaws, IsSoundHosted}
@@ -47,6 +47,8 @@ use Rattle.page_laws.proofs.RunLemmas.{EndsSound, RunsStay, own-pass, run-sound}
 use Rattle.page_laws.proofs.TargetLemmas.{action-good}
 use Rattle.page_laws.proofs.TimerLemmas.{dropped-sound, with_settled-sound}
 use Rattle.page_laws.proofs.WalkLemmas.{IsBelow, first-below, places-below}
+use Rattle.event_items.specs.Subscriptions.{ItemsState, data_event_items, fires_for_data_event, most_data_event_items}
+use Rattle.event_items.specs.EventItems.{EventItem}
 
 -- the world of a sound document
 abbrev pub HasFitWorld : Document → Type 0
@@ -352,6 +354,8 @@ module _ (laws : TreeLaws) (stay : RunsStay) (hosts : HostLaws) where
       handler-sound (events.Locked item status) item scene s (named-node scene item h)
   handled-sound (events.Button item) scene s h =
       handler-sound (events.Button item) item scene s (named-node scene item h)
+  handled-sound (events.DataEvent item) scene s h =
+      handler-sound (events.DataEvent item) item scene s (named-node scene item h)
 
   -- ---- messages, changes of modules, keys and moments
 
@@ -439,3 +443,81 @@ module _ (laws : TreeLaws) (stay : RunsStay) (hosts : HostLaws) where
   unload_effect-sound scene s =
       handled_at-sound (body_in scene) events.Unload (without_waiting scene)
       (waiting-sound scene s) (body-below (items_of scene))
+
+  -- ---- data events
+
+  -- a handler leaves the nodes and their elements
+  end-same : (name : List ℕ) (event : CurrentEvent) (run : Run) (scene : Scene)
+      → IsSoundScene scene → has_target (items_of scene) event ≡ true
+      → StaysWithin (is_good_here scene) 0 run → AreAsFirst (items_of scene)
+      (items_of (effect_of_end name scene (end_of_run run (host_parts_in event scene))).scene)
+  end-same name event run scene s h stays =
+      let limit = limit_of scene.document in
+      let ends : EndsSound (items_of scene) limit 0 (end_of_run run (host_parts_in event scene)) =
+      run-sound laws hosts (items_of scene) limit 0 run (host_parts_in event scene) stays
+      (record { acting = acting-first scene event s h; locks = s.locks }) in
+      ends.hosted.acting.nodes
+
+  program-same : (name : List ℕ) (event : CurrentEvent) (place : ℕ) (scene : Scene)
+      → IsSoundScene scene → has_target (items_of scene) event ≡ true
+      → AreAsFirst (items_of scene) (items_of (run_program name event place scene).scene)
+  unfolding run_program
+  program-same name event place scene s h =
+      let d : Document = scene.document in
+      end-same name event
+      (run_at (map program_of d.programs) place d.globals d.heap most_steps) scene s h
+      (stay.places (is_good_in d) 0 (map program_of d.programs) place d.globals d.heap most_steps
+      (own-pass d.tree.items (limit_of d)) (world-fit d s.document))
+
+  handler-same : (event : Event) (node : ℕ) (scene : Scene) → IsSoundScene scene
+      → node < length (items_of scene)
+      → AreAsFirst (items_of scene) (items_of (run_handler event node scene).scene)
+  handler-same event node scene s h =
+      by (option_and_then (handler_in scene.document.handlers node) (kind_of event))
+    where
+      by : (place : Option ℕ) → AreAsFirst (items_of scene) (items_of (option_map_or
+          (λ place. run_program (name_of event) (record { event = Some event; target = node })
+          place scene) place (no_effect scene)).scene)
+      by None = record { tree = s.document.tree; count = refl; tags = λ node. refl }
+      by (Some place) =
+          program-same (name_of event) _ place scene s
+          (node-target (items_of scene) event node h)
+
+  -- these nodes are elements
+  abbrev AreElements : Scene → List ℕ → Type 0
+  AreElements scene nodes = All (λ node. has_element (items_of scene) node ≡ true) nodes
+
+  data_items-good : (scene : Scene) → IsSoundScene scene
+      → AreElements scene (data_event_items scene.document.items)
+  data_items-good scene s =
+      let items : ItemsState = scene.document.items in
+      let fires = fires_for_data_event items in
+      let good = λ (node : ℕ). has_element (items_of scene) node ≡ true in
+      All-take good most_data_event_items (map (λ item. item.node) (filter fires items.items))
+      (All-map good (λ (item : EventItem). item.node) (filter fires items.items)
+      (All-filter fires (λ (item : EventItem). good item.node) items.items s.document.items))
+
+  items-sound : (nodes : List ℕ) (scene : Scene) → IsSoundScene scene → AreElements scene nodes
+      → IsSoundScene (items_effect nodes scene).scene
+  unfolding event_effect
+  items-sound [] scene s all = s
+  items-sound (node ∷ nodes) scene s all =
+      let event : Event = events.DataEvent node in
+      let good = λ (node : ℕ). has_element (items_of scene) node ≡ true in
+      let below = named-node scene node (All-head good node nodes all) in
+      let next : Scene = (run_handler event node scene).scene in
+      let same = handler-same event node scene s below in
+      items-sound nodes next (handler-sound event node scene s below)
+      (All-weaker good (λ (node : ℕ). has_element (items_of next) node ≡ true)
+      (λ node h. element-same (items_of scene) (items_of next) same node ∙ h) nodes
+      (All-tail good node nodes all))
+
+  pub data_event-sound : (scene : Scene) → IsSoundScene scene
+      → IsSoundScene (data_event_effect scene).scene
+  unfolding data_event_effect event_effect
+  data_event-sound scene s =
+      let nodes = data_event_items scene.document.items in
+      let next : Scene = (items_effect nodes (without_waiting scene)).scene in
+      handled_at-sound (body_in next) events.Unload next
+      (items-sound nodes (without_waiting scene) (waiting-sound scene s) (data_items-good scene s))
+      (body-below (items_of next))

@@ -30,7 +30,7 @@ use Rattle.event_items.specs.Subscriptions.{fires_for_message}
 use Rattle.browser_objects.specs.Calls.{BrowserParts, CallOutcome, call_of}
 use Rattle.browser_objects.specs.declared.effects.Effect as of_browser
 use Rattle.browser_objects.specs.declared.effects.Effect.TheVariants as effects
-use Rattle.document_stages.specs.Acting.{Acting, CallAnswer, with_action, with_first_events, button_posts, button_post, change_posts, each_item, element_call, with_item_fired, focus_on, with_focus_asked, has_room, is_subscription, is_unload, key_posts, launch, without_focus_of, lock_posts, lock_post, message_posts, message_post, module_post, with_focus_moved, with_node_written, with_event, with_event_for, with_event_where, with_press, member_value, with_text_written, update_posts, with_browser, with_focus, with_member_set}
+use Rattle.document_stages.specs.Acting.{Acting, CallAnswer, with_action, with_first_events, button_posts, button_post, change_posts, each_item, element_call, with_item_fired, focus_on, with_focus_asked, has_room, is_subscription, is_ending, key_posts, launch, without_focus_of, lock_posts, lock_post, message_posts, message_post, module_post, with_focus_moved, with_node_written, with_event, with_event_for, with_event_where, with_press, member_value, with_text_written, update_posts, with_browser, with_focus, with_member_set}
 use Rattle.document_stages.specs.Hosting.{HostParts, Reply, browser_call, reply_of_call, reply_of_effect, answer_of_lock}
 use Rattle.acting_documents.specs.Runs.{end_of_run}
 use Rattle.page_laws.proofs.BrowserLemmas.{call-good}
@@ -203,7 +203,7 @@ module _ (clock : ℕ) where
 
   launch-timely : (path : Path) (a : Acting) (heap : List ObjectState) → ActsTimely clock a
       → AnswersTimely (launch path a heap)
-  launch-timely path a heap h = either AnswersTimely (is_unload a.event.event) _ _ h h
+  launch-timely path a heap h = either AnswersTimely (is_ending a.event.event) _ _ h h
 
   -- ---- calls that may lock and unlock modules
 

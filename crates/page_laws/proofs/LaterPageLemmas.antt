@@ -1,6 +1,6 @@
 -- The timers of a page are due later than its clock: turns and what comes beside them.
-use Rattle.std.proofs.Common.{◌≡◌, ℕ, zero, suc, ◌≤◌, Bool, List, Option, Some, None, refl, sym, subst}
-use Rattle.std.specs.Prelude.{IfSome, Result, Ok, Err, option_and_then, option_map}
+use Rattle.std.proofs.Common.{◌≡◌, ℕ, zero, suc, ◌≤◌, Bool, List, Option, Some, None, refl, sym, subst, true, false}
+use Rattle.std.specs.Prelude.{IfSome, Result, Ok, Err, option_and_then, option_map, if◌then◌else◌}
 use Rattle.std.specs.Option.{option_map_or, option_or}
 use Rattle.std.proofs.lemmas.List.Elements.{All-nil}
 use Rattle.bml_reader.specs.declared.faults.DocFault.{DocFault}
@@ -16,11 +16,11 @@ use Rattle.acting_documents.specs.Beginnings.{load_effect}
 use Rattle.acting_documents.specs.Documents.{Document}
 use Rattle.acting_documents.specs.Handling.{change_effect, due_effect, event_effect, key_effect, message_effect, without_first}
 use Rattle.acting_documents.specs.Runs.{Effect, Scene}
-use Rattle.page.specs.Dispatches.{dispatch, dispatches, event_in, load_at, most_dispatches, next_and, next_event, next_load, turn}
-use Rattle.page.specs.Inputs.{change_step, changes_step, document_step, due_next, due_step, key_step, message_step, with_clock}
+use Rattle.page.specs.Dispatches.{dispatch, dispatches, event_in, load_at, most_dispatches, next_and, next_event, next_load, turn, data_event_step, next_data_event}
+use Rattle.page.specs.Inputs.{change_step, changes_step, document_step, due_next, due_step, key_step, message_step, with_clock, with_data_event}
 use Rattle.page.specs.Loading.{load, loadable_reading, document_of_draft, wanted_path}
-use Rattle.page.specs.State.{State, Step, opening, scene_in, stays_or_goes, step_of, still}
-use Rattle.page.specs.State.Wanted.{NoDocument}
+use Rattle.page.specs.State.{State, Step, opening, scene_in, stays_or_goes, step_of, still, ends_for_data_event}
+use Rattle.page.specs.State.Wanted.{NoDocument, StartDocument}
 use Rattle.page_laws.specs.Soundness.{IsSound}
 use Rattle.page_laws.specs.Times.{AreLater, IsLater}
 use Rattle.page_laws.proofs.DueLemmas.{due-later, least-near}
@@ -95,11 +95,29 @@ module _ (clock : ℕ) where
       by None = tt
       by (Some d) = of d (first_of d.queue)
 
+  -- a data event ends the document
+  next_data_event-may : (s : State) → PageTimely clock s → MayTimely clock (next_data_event s)
+  next_data_event-may s h = by s.data_event
+    where
+      now : State
+      now = record s { data_event = false }
+
+      of : (document : Option Document) → PageTimely clock (option_map_or
+          (λ d. ends_for_data_event now (scene_in now d)) document
+          (still (record now { wanted = StartDocument }))).state
+      of None = record { is_now = h.is_now; timers = h.timers }
+      of (Some d) = record { is_now = h.is_now; timers = none-later clock }
+
+      by : (waits : Bool) → MayTimely clock (if waits then Some (data_event_step now) else None)
+      by true = of s.document
+      by false = tt
+
   dispatch-may : (s : State) → PageTimely clock s
       → MayTimely clock (dispatch s)
   unfolding dispatch
   dispatch-may s h =
-      either (next_load s) (next_event s) (next_load-may s h) (next_event-may s h)
+      either (next_data_event s) (option_or (next_load s) (next_event s)) (next_data_event-may s h)
+      (either (next_load s) (next_event s) (next_load-may s h) (next_event-may s h))
     where
       either : (one other : Option Step) → MayTimely clock one → MayTimely clock other
           → MayTimely clock (option_or one other)
@@ -145,7 +163,7 @@ module _ (clock : ℕ) where
       → PageTimely clock (change_step component change s).state
   change_step-timely component change s h =
       document_step-timely (change_effect component change)
-      (change-timely clock component change) s h
+      (change-timely clock component change) (with_data_event change s) h
 
   message_step-timely : (component : ℕ) (message : Message) (s : State) → PageTimely clock s
       → PageTimely clock (message_step component message s).state

@@ -128,6 +128,7 @@ module _ (clock : ℕ) where
   handled-timely (events.Locked item status) s h =
       handler-timely (events.Locked item status) item s h
   handled-timely (events.Button item) s h = handler-timely (events.Button item) item s h
+  handled-timely (events.DataEvent item) s h = handler-timely (events.DataEvent item) item s h
 
   -- ---- messages, changes of modules and keys
 

@@ -1,6 +1,6 @@
 -- What comes to a page changes the nodes of its document by the writes of scripts alone.
-use Rattle.std.proofs.Common.{◌≡◌, ◌∙◌, true, List, [], ◌∷◌, Option, Some, None, refl, sym, ap, subst}
-use Rattle.std.specs.Prelude.{IfSome, is_some, option_and_then, option_map}
+use Rattle.std.proofs.Common.{◌≡◌, ◌∙◌, true, List, [], ◌∷◌, Option, Some, None, refl, sym, ap, subst, Bool, false}
+use Rattle.std.specs.Prelude.{IfSome, is_some, option_and_then, option_map, if◌then◌else◌}
 use Rattle.std.specs.Option.{option_map_or, option_or}
 use Rattle.multipart_entities.specs.declared.paths.Path.{Path}
 use Rattle.event_queue.specs.Queues.{first_of}
@@ -8,11 +8,11 @@ use Rattle.event_queue.specs.declared.events.Event.{Event}
 use Rattle.acting_documents.specs.Documents.{Document}
 use Rattle.acting_documents.specs.Handling.{change_effect, due_effect, event_effect, key_effect, message_effect, without_first}
 use Rattle.acting_documents.specs.Runs.{Effect, Scene}
-use Rattle.page.specs.Dispatches.{dispatch, event_in, load_at, next_event, next_load}
-use Rattle.page.specs.Inputs.{document_step, with_clock}
+use Rattle.page.specs.Dispatches.{dispatch, event_in, load_at, next_event, next_load, data_event_step, next_data_event}
+use Rattle.page.specs.Inputs.{document_step, with_clock, with_data_event}
 use Rattle.page.specs.Loading.{wanted_path}
-use Rattle.page.specs.State.{State, Step, Wanted, scene_in, stays_or_goes, step_behind, step_of, still}
-use Rattle.page.specs.State.Wanted.{NoDocument}
+use Rattle.page.specs.State.{State, Step, Wanted, scene_in, stays_or_goes, step_behind, step_of, still, ends_for_data_event}
+use Rattle.page.specs.State.Wanted.{NoDocument, StartDocument}
 use Rattle.page_laws.specs.Moments.{Moment, Dispatches, HasChange, HasMessage, HasKey, IsDue, HasClock, HasRandom, HasDate, HasModules, Lasts, after, after_all, writes_in, writes_since, writes_by_first}
 use Rattle.page_laws.specs.Nodes.{Nodes, event_writes, nodes_of, with_writes}
 use Rattle.page_laws.specs.Soundness.{IsSound}
@@ -36,17 +36,19 @@ went-on s e nodes wanted same there = by e.launched there
     by (Some path) there = absurd cc
 
 -- what a document does outside of scripts
+step-is : (s : State) (d : Document) → s.document ≡ Some d → (effect : Scene → Effect)
+    → document_step effect s ≡ step_of s (effect (scene_in s d))
+step-is s d is effect = ap (λ (o : Option Document). option_map_or (λ d. step_of s (effect (scene_in s d))) o (still s)) is
+
+quiet : (s : State) (d : Document) → s.document ≡ Some d → s.wanted ≡ NoDocument → (effect : Scene → Effect)
+    → nodes_in (effect (scene_in s d)).scene ≡ nodes_of d.tree → is_some (document_step effect s).state.document ≡ true
+    → HasDocument (document_step effect s).state (nodes_of d.tree)
+quiet s d is wanted effect same there =
+    subst (λ (t : Step). HasDocument t.state (nodes_of d.tree)) (sym (step-is s d is effect))
+    (went-on s (effect (scene_in s d)) (nodes_of d.tree) wanted same
+    (ap (λ (t : Step). is_some t.state.document) (sym (step-is s d is effect)) ∙ there))
+
 module _ (s : State) (d : Document) (is : s.document ≡ Some d) (wanted : s.wanted ≡ NoDocument) where
-  step-is : (effect : Scene → Effect) → document_step effect s ≡ step_of s (effect (scene_in s d))
-  step-is effect = ap (λ (o : Option Document). option_map_or (λ d. step_of s (effect (scene_in s d))) o (still s)) is
-
-  quiet : (effect : Scene → Effect) → nodes_in (effect (scene_in s d)).scene ≡ nodes_of d.tree
-      → is_some (document_step effect s).state.document ≡ true → HasDocument (document_step effect s).state (nodes_of d.tree)
-  quiet effect same there =
-      subst (λ (t : Step). HasDocument t.state (nodes_of d.tree)) (sym (step-is effect))
-      (went-on s (effect (scene_in s d)) (nodes_of d.tree) wanted same
-      (ap (λ (t : Step). is_some t.state.document) (sym (step-is effect)) ∙ there))
-
   as-before : HasDocument s (nodes_of d.tree)
   as-before = record { document = d; is = is; wanted = wanted; nodes_are = refl }
 
@@ -56,18 +58,32 @@ module _ (s : State) (d : Document) (is : s.document ≡ Some d) (wanted : s.wan
   unfolding next_load
   no-load = ap (λ (w : Wanted). option_and_then (load_at s) (wanted_path w s.modules)) wanted
 
-  dispatch-is : dispatch s ≡ event_in s d
+  -- a data event that waits is the next dispatch, and ends the document
+  abbrev behind_event : State
+  behind_event = record s { data_event = false }
+
+  abbrev event_if : Bool → Option Step
+  event_if waits = if waits then Some (data_event_step behind_event) else None
+
+  ends-there : s.data_event ≡ true → (option_map_or (λ step. step.state) (dispatch s) s).document ≡ None
   unfolding dispatch
-  dispatch-is =
-      ap (λ (o : Option Step). option_or o (next_event s)) no-load
+  ends-there waits =
+      ap (λ (b : Bool). (option_map_or (λ step. step.state) (option_or (event_if b) (option_or (next_load s) (next_event s))) s).document) waits
+      ∙ ap (λ (o : Option Document). (option_map_or (λ d. ends_for_data_event behind_event (scene_in behind_event d)) o (still (record behind_event { wanted = StartDocument }))).state.document) is
+
+  dispatch-is : s.data_event ≡ false → dispatch s ≡ event_in s d
+  unfolding dispatch
+  dispatch-is none =
+      ap (λ (b : Bool). option_or (event_if b) (option_or (next_load s) (next_event s))) none
+      ∙ ap (λ (o : Option Step). option_or o (next_event s)) no-load
       ∙ ap (λ (o : Option Document). option_and_then (event_in s) o) is
 
-  dispatched : is_some (option_map_or (λ step. step.state) (dispatch s) s).document ≡ true
+  goes-on : s.data_event ≡ false → is_some (option_map_or (λ step. step.state) (dispatch s) s).document ≡ true
       → HasDocument (option_map_or (λ step. step.state) (dispatch s) s) (with_writes (option_map_or (writes_by_first s) s.document []) (nodes_of d.tree))
-  dispatched there =
+  goes-on none there =
       subst (λ (o : Option Document). HasDocument (option_map_or (λ step. step.state) (dispatch s) s) (with_writes (option_map_or (writes_by_first s) o []) (nodes_of d.tree))) (sym is)
-      (subst (λ (o : Option Step). HasDocument (option_map_or (λ step. step.state) o s) (with_writes (writes_by_first s d) (nodes_of d.tree))) (sym dispatch-is)
-      (by (first_of d.queue) (ap (λ (o : Option Step). is_some (option_map_or (λ step. step.state) o s).document) (sym dispatch-is) ∙ there)))
+      (subst (λ (o : Option Step). HasDocument (option_map_or (λ step. step.state) o s) (with_writes (writes_by_first s d) (nodes_of d.tree))) (sym (dispatch-is none))
+      (by (first_of d.queue) (ap (λ (o : Option Step). is_some (option_map_or (λ step. step.state) o s).document) (sym (dispatch-is none)) ∙ there)))
     where
       by : (event : Option Event)
           → is_some (option_map_or (λ step. step.state) (option_map (λ event. step_of s (event_effect event (without_first (scene_in s d)))) event) s).document ≡ true
@@ -78,13 +94,23 @@ module _ (s : State) (d : Document) (is : s.document ≡ Some d) (wanted : s.wan
           let scene : Scene = without_first (scene_in s d) in
           went-on s (event_effect event scene) (with_writes (event_writes event scene) (nodes_of d.tree)) wanted (event-writes event scene) there
 
+  dispatched : is_some (option_map_or (λ step. step.state) (dispatch s) s).document ≡ true
+      → HasDocument (option_map_or (λ step. step.state) (dispatch s) s) (with_writes (option_map_or (writes_by_first s) s.document []) (nodes_of d.tree))
+  dispatched there = by s.data_event refl
+    where
+      by : (waits : Bool) → s.data_event ≡ waits
+          → HasDocument (option_map_or (λ step. step.state) (dispatch s) s) (with_writes (option_map_or (writes_by_first s) s.document []) (nodes_of d.tree))
+      by true e = absurd (let no : false ≡ true = sym (ap (λ (o : Option Document). is_some o) (ends-there e)) ∙ there in cc no)
+      by false e = goes-on e there
+
   -- ---- one moment
 
   pub one-moment : (moment : Moment) → is_some (after moment s).document ≡ true → HasDocument (after moment s) (with_writes (writes_in moment s) (nodes_of d.tree))
   one-moment Dispatches there = dispatched there
-  one-moment (HasChange component change) there = quiet (change_effect component change) (change-nodes component change (scene_in s d)) there
-  one-moment (HasMessage component message) there = quiet (message_effect component message) (message-nodes component message (scene_in s d)) there
-  one-moment (HasKey key down) there = quiet (key_effect key down) (key-nodes key down (scene_in s d)) there
+  one-moment (HasChange component change) there =
+      quiet (with_data_event change s) d is wanted (change_effect component change) (change-nodes component change (scene_in s d)) there
+  one-moment (HasMessage component message) there = quiet s d is wanted (message_effect component message) (message-nodes component message (scene_in s d)) there
+  one-moment (HasKey key down) there = quiet s d is wanted (key_effect key down) (key-nodes key down (scene_in s d)) there
   one-moment (IsDue moment) there =
       subst (λ (t : Step). HasDocument t.state (nodes_of d.tree)) (sym due-is)
       (went-on (with_clock moment s) (due_effect moment (scene_in s d)) (nodes_of d.tree) wanted (due-nodes moment (scene_in s d))

@@ -28,7 +28,7 @@ use Rattle.event_items.specs.Subscriptions.{fires_for_message}
 use Rattle.browser_objects.specs.Calls.{CallOutcome, call_of}
 use Rattle.browser_objects.specs.declared.effects.Effect as of_browser
 use Rattle.browser_objects.specs.declared.effects.Effect.TheVariants as effects
-use Rattle.document_stages.specs.Acting.{Acting, CallAnswer, with_action, button_posts, button_post, change_posts, each_item, element_call, with_item_fired, focus_on, with_focus_asked, has_room, is_unload, key_posts, launch, without_focus_of, lock_posts, lock_post, message_posts, message_post, module_post, with_focus_moved, with_event, with_event_for, with_event_where, with_press, update_posts, with_browser, with_focus, acting_with_timers, with_timer_fired, with_timers_fired, with_due_events}
+use Rattle.document_stages.specs.Acting.{Acting, CallAnswer, with_action, button_posts, button_post, change_posts, each_item, element_call, with_item_fired, focus_on, with_focus_asked, has_room, is_ending, key_posts, launch, without_focus_of, lock_posts, lock_post, message_posts, message_post, module_post, with_focus_moved, with_event, with_event_for, with_event_where, with_press, update_posts, with_browser, with_focus, acting_with_timers, with_timer_fired, with_timers_fired, with_due_events}
 use Rattle.document_stages.specs.Hosting.{HostParts, Reply, browser_call, reply_of_call, reply_of_effect, answer_of_lock}
 use Rattle.page_laws.proofs.EventItemLemmas.{told_in_turn}
 use Rattle.page_laws.specs.Nodes.{Nodes, nodes_of}
@@ -156,7 +156,7 @@ module _ (nodes : Nodes) where
 
   launch-stay : (path : Path) (a : Acting) (heap : List ObjectState) → HasNodes nodes a
       → AnswersWith (launch path a heap)
-  launch-stay path a heap h = either AnswersWith (is_unload a.event.event) _ _ h h
+  launch-stay path a heap h = either AnswersWith (is_ending a.event.event) _ _ h h
 
   -- ---- calls that may lock and unlock modules
 

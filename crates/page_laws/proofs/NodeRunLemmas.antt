@@ -156,6 +156,7 @@ event-writes (events.Fired item component message) s = handler-writes (events.Fi
 event-writes (events.Updated item status) s = handler-writes (events.Updated item status) item s
 event-writes (events.Locked item status) s = handler-writes (events.Locked item status) item s
 event-writes (events.Button item) s = handler-writes (events.Button item) item s
+event-writes (events.DataEvent item) s = handler-writes (events.DataEvent item) item s
 
 pub message-nodes : (component : ℕ) (message : Message) (s : Scene) → nodes_in (message_effect component message s).scene ≡ nodes_in s
 unfolding message_effect

@@ -1,6 +1,6 @@
 -- Pages stay sound: loads, dispatches and turns, and what comes beside them.
-use Rattle.std.proofs.Common.{◌≡◌, ◌↔◌, ℕ, zero, suc, Bool, true, false, List, [], ◌∷◌, Option, Some, None, refl, sym, ◌∙◌, ap, arith, length-drop}
-use Rattle.std.specs.Prelude.{ℤ, All, IfSome, Result, Ok, Err, if◌then◌else◌, option_and_then, option_map}
+use Rattle.std.proofs.Common.{◌≡◌, ◌↔◌, ℕ, zero, suc, Bool, true, false, List, [], ◌∷◌, Option, Some, None, refl, sym, ◌∙◌, ap, arith, length-drop, subst}
+use Rattle.std.specs.Prelude.{ℤ, All, IfSome, Result, Ok, Err, if◌then◌else◌, option_and_then, option_map, ◌||◌}
 use Rattle.std.specs.Option.{option_map_or, option_or}
 use Rattle.std.proofs.lemmas.List.Elements.{All-drop, All-head}
 use Rattle.dom_tree.specs.Items.{Item}
@@ -19,24 +19,25 @@ use Rattle.event_queue.specs.declared.events.Event.{Event}
 use Rattle.es_reader.specs.Readers.{Reader}
 use Rattle.document_load.specs.Drafts.{DraftState}
 use Rattle.document_load.specs.Needs.{needs_of}
-use Rattle.page.specs.Dispatches.{dispatch, dispatches, event_in, load_at, most_dispatches, next_and, next_event, next_load, turn}
+use Rattle.page.specs.Dispatches.{dispatch, dispatches, event_in, load_at, most_dispatches, next_and, next_event, next_load, turn, data_event_step, next_data_event}
 use Rattle.acting_documents.specs.Beginnings.{load_effect}
 use Rattle.acting_documents.specs.Documents.{Document}
 use Rattle.acting_documents.specs.Handling.{change_effect, due_effect, event_effect, key_effect, message_effect, without_first}
 use Rattle.acting_documents.specs.Runs.{Effect, Scene}
-use Rattle.page.specs.Inputs.{change_step, changes_step, document_step, due_step, key_step, message_step, with_clock, with_date, with_random}
+use Rattle.page.specs.Inputs.{change_step, changes_step, document_step, due_step, key_step, message_step, with_clock, with_date, with_random, with_data_event}
 use Rattle.page.specs.Loading.{are_settled, given_draft, load, loadable_reading, reading_if_settled, document_of_draft, reading_in, wanted_path}
-use Rattle.page.specs.State.{State, Step, opening, scene_in, stays_or_goes, step_of, still, with_modules}
-use Rattle.page.specs.State.Wanted.{NoDocument}
+use Rattle.page.specs.State.{State, Step, opening, scene_in, stays_or_goes, step_of, still, with_modules, ends_for_data_event}
+use Rattle.page.specs.State.Wanted.{NoDocument, StartDocument}
 use Rattle.page_laws.specs.Soundness.{IsSound, IsSoundDocument, is_good_event}
 use Rattle.page_laws.proofs.ActingLemmas.{TreeLaws}
-use Rattle.page_laws.proofs.DocumentLemmas.{IsSoundScene, change-sound, due_effect-sound, handled-sound, key-sound, load_effect-sound, message-sound, opened-sound, unload_effect-sound}
+use Rattle.page_laws.proofs.DocumentLemmas.{IsSoundScene, change-sound, due_effect-sound, handled-sound, key-sound, load_effect-sound, message-sound, opened-sound, unload_effect-sound, data_event-sound}
 use Rattle.page_laws.proofs.EventItemLemmas.{ItemNodes}
 use Rattle.page_laws.proofs.HostedLemmas.{HasFewLocks, HostLaws}
 use Rattle.page_laws.proofs.ItemLemmas.{OneIsTree, read-tree}
 use Rattle.page_laws.proofs.RunLemmas.{RunsStay}
 use Rattle.page_laws.proofs.StepLemmas.{each_step-kept}
 use Rattle.page_laws.proofs.TimerLemmas.{none-sound}
+use Rattle.carousel_blocks.specs.DataEvents.{is_data_event}
 
 -- what is known of what pages stand on
 pub record Laws : Type 0 where
@@ -100,6 +101,16 @@ with_date-sound day second s h = record {
 
 pub with_random-sound : (word : ℕ) (s : State) → IsSound s → IsSound (with_random word s)
 with_random-sound word s h = record {
+  document = h.document;
+  timers = h.timers;
+  none_without = h.none_without;
+  wanted = h.wanted;
+  locks = h.locks;
+}
+
+-- a data event waits, or none does
+with_event-sound : (waits : Bool) (s : State) → IsSound s → IsSound (record s { data_event = waits })
+with_event-sound waits s h = record {
   document = h.document;
   timers = h.timers;
   none_without = h.none_without;
@@ -253,6 +264,38 @@ module _ (laws : Laws) where
       by None good none = tt
       by (Some d) good none = event-sound s d h good none
 
+  -- ---- data events
+
+  data_event-step-sound : (s : State) → IsSound s → IsSound (data_event_step s).state
+  data_event-step-sound s h = by s.document refl h.document
+    where
+      by : (document : Option Document) → s.document ≡ document
+          → IfSome document IsSoundDocument → IsSound (option_map_or
+          (λ d. ends_for_data_event s (scene_in s d)) document
+          (still (record s { wanted = StartDocument }))).state
+      by None same good = record {
+        document = h.document;
+        timers = h.timers;
+        none_without = h.none_without;
+        wanted = subst (λ (o : Option Document). IfSome o (λ d. StartDocument ≡ NoDocument)) (sym same) tt;
+        locks = h.locks;
+      }
+      by (Some d) same good = record {
+        document = tt;
+        timers = none-sound;
+        none_without = λ same. refl;
+        wanted = tt;
+        locks = (data_event-sound laws.trees laws.programs laws.hosts (scene_in s d) (scene-sound s d h good)).locks;
+      }
+
+  next_data_event-sound : (s : State) → IsSound s → MaySound (next_data_event s)
+  next_data_event-sound s h = by s.data_event
+    where
+      by : (waits : Bool) → MaySound
+          (if waits then Some (data_event_step (record s { data_event = false })) else None)
+      by true = data_event-step-sound (record s { data_event = false }) (with_event-sound false s h)
+      by false = tt
+
   -- ---- turns
 
   either-sound : (one other : Option Step) → MaySound one → MaySound other
@@ -263,8 +306,9 @@ module _ (laws : Laws) where
   dispatch-sound : (s : State) → IsSound s → MaySound (dispatch s)
   unfolding dispatch
   dispatch-sound s h =
-      either-sound (next_load s) (next_event s) (next_load-sound s h)
-      (next_event-sound s h)
+      either-sound (next_data_event s) (option_or (next_load s) (next_event s))
+      (next_data_event-sound s h)
+      (either-sound (next_load s) (next_event s) (next_load-sound s h) (next_event-sound s h))
 
   and-sound : (more : State → Step) → ((s : State) → IsSound s → IsSound (more s).state)
       → (s : State) → IsSound s → (step : Option Step) → MaySound step
@@ -303,7 +347,8 @@ module _ (laws : Laws) where
       → IsSound (change_step component change s).state
   change_step-sound component change s h =
       document_step-sound (change_effect component change)
-      (change-sound laws.trees laws.programs laws.hosts component change) s h
+      (change-sound laws.trees laws.programs laws.hosts component change) (with_data_event change s)
+      (with_event-sound (s.data_event || is_data_event change) s h)
 
   pub changes-sound : (changes : List (ℕ × Change)) (s : State) → IsSound s
       → IsSound (changes_step changes s).state

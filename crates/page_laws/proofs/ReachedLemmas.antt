@@ -39,6 +39,7 @@ event-is items (events.Fired other component message) node good is = same-node i
 event-is items (events.Updated other status) node good is = same-node items other node good is
 event-is items (events.Locked other status) node good is = same-node items other node good is
 event-is items (events.Button other) node good is = same-node items other node good is
+event-is items (events.DataEvent other) node good is = same-node items other node good is
 event-is items _ node good is = no-node items node is
 
 place-is : (items : List Item) (place : Option ℕ) (node : ℕ) → is_good_place items place ≡ true → place ≡ Some node → has_element items node ≡ true

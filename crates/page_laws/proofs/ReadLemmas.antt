@@ -24,7 +24,7 @@ use Rattle.event_queue.specs.declared.events.Event.{Event}
 use Rattle.event_queue.specs.declared.events.Event.TheVariants as events
 use Rattle.event_queue.specs.Events.{name_of}
 use Rattle.dom_objects.specs.Parts.{Parts, state_of_number}
-use Rattle.dom_objects.specs.Reads.{ElementRow, ElementTable, Rows, document_rows, element_rows, element_table, element_value, event_rows, node_rows, node_value, own_event_rows, own_rows, own_table, property_named, read_in, read_value, table_rows, style_read, style_text, text_rows, walk_rows}
+use Rattle.dom_objects.specs.Reads.{ElementRow, ElementTable, Rows, document_rows, element_rows, element_table, element_value, event_rows, is_seen, node_rows, node_value, own_event_rows, own_rows, own_table, property_named, read_in, read_value, table_rows, seen_event, style_read, style_text, text_rows, walk_rows}
 use Rattle.dom_objects.specs.Reads.ElementRow.{Tag, Attribute, StyleFor}
 use Rattle.dom_objects.specs.declared.current_events.CurrentEvent.{CurrentEvent}
 use Rattle.page_laws.specs.Soundness.{has_element, has_node, is_good, is_good_place, names_well}
@@ -194,20 +194,28 @@ events-give : (items : List Item) (current : CurrentEvent) → has_target items 
     → EachGives items (event_rows items current)
 events-give items current h = by current.event h
   where
+    of : (seen : Bool) (event : Event) → has_node items current.target ≡ true
+        → EachGives items (option_map_or
+        (λ event. (codes "type", Str (name_of event))
+        ∷ (codes "target", Host (ref.Node current.target)) ∷ own_event_rows items event)
+        (if seen then Some event else None) [])
+    of true event h = (refl, (h, own-give items event))
+    of false event h = tt
+
     by : (event : Option Event)
         → option_map_or (λ event. has_node items current.target) event true ≡ true
         → EachGives items (option_map_or
         (λ event. (codes "type", Str (name_of event))
         ∷ (codes "target", Host (ref.Node current.target)) ∷ own_event_rows items event)
-        event [])
+        (seen_event event) [])
     by None h = tt
-    by (Some event) h = (refl, (h, own-give items event))
+    by (Some event) h = of (is_seen event) event h
 
 document-gives : (items : List Item) (focus : Focus) (current : CurrentEvent)
     → is_good_place items (number_of focus.focus) ≡ true
     → EachGives items (document_rows focus current)
 document-gives items focus current h = (
-  by current.event,
+  by (seen_event current.event),
   (
     node-given items (number_of focus.focus) (place-below items (number_of focus.focus) h),
     tt,

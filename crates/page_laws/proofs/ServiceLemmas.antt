@@ -24,10 +24,11 @@ use Rattle.multipart_entities.specs.declared.paths.Path.{Path}
 use Rattle.dom_objects.specs.declared.current_events.CurrentEvent.{CurrentEvent}
 use Rattle.document_stages.specs.Acting.{member_value, with_browser, with_member_set}
 use Rattle.document_stages.specs.Hosting.{HostParts, reply_of_call, reply_of_effect}
-use Rattle.acting_documents.specs.Beginnings.{begin, load_effect, run_scripts, script_places, unload_effect, without_waiting}
+use Rattle.acting_documents.specs.Beginnings.{begin, load_effect, run_scripts, script_places, unload_effect, without_waiting, data_event_effect, items_effect}
 use Rattle.acting_documents.specs.Documents.{Document, handler_in}
 use Rattle.acting_documents.specs.Handling.{body_in, without_active, focus_of, event_effect, event_effect_at, kind_of, run_handler, timer_effect, with_timer_taken}
 use Rattle.acting_documents.specs.Runs.{Effect, Scene, and_then, end_of_run, host_parts_in, most_steps, no_event, no_effect, run_function, run_program, unless_launched}
+use Rattle.event_items.specs.Subscriptions.{data_event_items}
 
 -- ---- scripts
 
@@ -146,6 +147,7 @@ handled-service (events.Updated item status) s =
     handler-service (events.Updated item status) item s
 handled-service (events.Locked item status) s = handler-service (events.Locked item status) item s
 handled-service (events.Button item) s = handler-service (events.Button item) item s
+handled-service (events.DataEvent item) s = handler-service (events.DataEvent item) item s
 
 -- ---- loads and ends
 
@@ -163,3 +165,16 @@ load-service s =
 pub unload-service : (s : Scene) → LeavesService s (unload_effect s)
 unfolding unload_effect
 unload-service s = handled-service events.Unload (without_waiting s)
+
+items-service : (items : List ℕ) (s : Scene) → LeavesService s (items_effect items s)
+items-service [] s = refl
+items-service (item ∷ items) s =
+    items-service items (event_effect (events.DataEvent item) s).scene
+    ∙ handled-service (events.DataEvent item) s
+
+pub data_event-service : (s : Scene) → LeavesService s (data_event_effect s)
+unfolding data_event_effect
+data_event-service s =
+    let items = data_event_items s.document.items in
+    handled-service events.Unload (items_effect items (without_waiting s)).scene
+    ∙ items-service items (without_waiting s)

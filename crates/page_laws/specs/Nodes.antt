@@ -123,6 +123,7 @@ event_writes (events.Fired item component message) s =
 event_writes (events.Updated item status) s = handler_writes (events.Updated item status) item s
 event_writes (events.Locked item status) s = handler_writes (events.Locked item status) item s
 event_writes (events.Button item) s = handler_writes (events.Button item) item s
+event_writes (events.DataEvent item) s = handler_writes (events.DataEvent item) item s
 
 -- ---- the last write
 

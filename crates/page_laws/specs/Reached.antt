@@ -36,6 +36,7 @@ named_by (events.Fired node component message) = Some node
 named_by (events.Updated node status) = Some node
 named_by (events.Locked node status) = Some node
 named_by (events.Button node) = Some node
+named_by (events.DataEvent node) = Some node
 named_by other = None
 
 -- an event that waits names it

@@ -56,6 +56,7 @@ is_good_event items (events.Fired node component message) = has_element items no
 is_good_event items (events.Updated node status) = has_element items node
 is_good_event items (events.Locked node status) = has_element items node
 is_good_event items (events.Button node) = has_element items node
+is_good_event items (events.DataEvent node) = has_element items node
 is_good_event items events.Unload = false
 is_good_event items other = true
 

@@ -1,6 +1,6 @@
 -- Changes and messages that are posted to a page, one behind the other.
 use Rattle.std.proofs.Common.{◌≡◌, ◌+◌, ◌<◌, ℕ, List, [], ◌∷◌, ◌++◌, length, get_or, take, refl, sym, ap, ap₂, ◌∙◌, subst, append-nil, append_assoc}
-use Rattle.std.specs.Prelude.{map}
+use Rattle.std.specs.Prelude.{map, Option, Some, None, option_to_list}
 use Rattle.std.proofs.lemmas.List.{map_more, take_more}
 use Rattle.carousel_blocks.specs.declared.changes.Change.{Change}
 use Rattle.event_messages.specs.declared.messages.Message.{Message}
@@ -65,6 +65,13 @@ pub posts_more : (component : ℕ) (changes : List Change) (index : ℕ) (none :
 posts_more component changes index none old mid new before between after within one two =
     subst (λ (l : List (ℕ × Change)). Posts l old new before after) (sym (map_more (of_component component) changes index none within))
     (posts_both (in_component component (take index changes)) ((component, get_or changes index none) ∷ []) old mid new before between after one two)
+
+-- a data event, where there is one, and then changes in modules
+pub posts_section : (component : ℕ) (event : Option Change) (changes : List Change) (old mid new : PageState) (before between after : List ℕ)
+    → Posts (in_component component (option_to_list event)) old mid before between → Posts (in_component component changes) mid new between after
+    → Posts (in_component component (option_to_list event ++ changes)) old new before after
+posts_section component None changes old mid new before between after one two = posts_both [] (in_component component changes) old mid new before between after one two
+posts_section component (Some event) changes old mid new before between after one two = posts_both ((component, event) ∷ []) (in_component component changes) old mid new before between after one two
 
 -- ---- messages
 

@@ -30,6 +30,7 @@ clock_gone state page s moment is stands =
       reader = stands.page.reader;
       document = stands.page.document;
       wanted = stands.page.wanted;
+      data_event = stands.page.data_event;
       current = stands.page.current;
       clock = refl;
       browser = stands.page.browser;

@@ -1,7 +1,7 @@
 //! The broadcast that is received, with its tables, its modules and its page; and what comes to it
 //! beside sections.
 
-ghost use Rattle.std.specs.Prelude.{◌≡◌, ◌≤◌, ◌<◌, ◌+◌, ◌^◌, ℕ, List, false, length, map};
+ghost use Rattle.std.specs.Prelude.{◌≡◌, ◌≤◌, ◌<◌, ◌+◌, ◌^◌, ◌++◌, ℕ, List, false, length, map, option_to_list};
 ghost use Rattle.std.specs.Prelude.{IfOk, OnOk};
 ghost use Rattle.std.specs.Io.{StartsWith};
 ghost use Rattle.psi_tables.specs.Service.{reads_table};
@@ -18,7 +18,7 @@ ghost use Rattle.receiver_core.specs.Turns.{step_of_section, step_of_table, turn
 
 use bml_bytes::{AreaBytes, NoMemory, TableRefusal, law_of_fronts};
 use event_messages::{Message, law_of_messages, read_messages};
-use module_locks::{Change, Modules};
+use module_locks::{Change, Modules, SectionChanges};
 use page::{Page, law_of_posted_changes};
 use psi_tables::{Selection, Services, law_of_component_map, law_of_unread_sections};
 use std::alloc::Global;
@@ -304,7 +304,7 @@ impl Broadcast {
         law_of_unread_sections();
         law_of_posted_changes();
         let changes = self.modules.feed(component, section)?;
-        post_changes(&mut self.page, component, changes.as_slice(), out)
+        post_section_changes(&mut self.page, component, &changes, out)
     }
 
     // Posts the event messages of a section of a component.
@@ -323,6 +323,43 @@ impl Broadcast {
     {
         let messages = messages_of(self.alloc, section)?;
         post_messages(&mut self.page, component, messages.as_slice(), out)
+    }
+}
+
+// Posts what a section of a component changed: the data event first, where it is one, and then the
+// changes in modules.
+fn post_section_changes(
+    page: &mut Page,
+    component: u8,
+    changes: &SectionChanges,
+    out: &mut Vec<u8>,
+) -> Result<(), NoMemory>
+    ensures posted { OnOk result (Posts (map (λ change. (component, change))
+        (option_to_list changes.now.data_event ++ changes.now.modules.items))
+        page.old page.new out.old.items out.new.items) }
+    ensures clock { OnOk result (page.new.clock ≡ page.old.clock) }
+    ensures grows { StartsWith out.new.items out.old.items }
+{
+    law_of_fronts();
+    post_event(page, component, &changes.data_event, out)?;
+    post_changes(page, component, changes.modules.as_slice(), out)
+}
+
+// Posts a data event of a component, where there is one.
+fn post_event(
+    page: &mut Page,
+    component: u8,
+    event: &Option<Change>,
+    out: &mut Vec<u8>,
+) -> Result<(), NoMemory>
+    ensures posted { OnOk result (Posts (map (λ change. (component, change))
+        (option_to_list event.now)) page.old page.new out.old.items out.new.items) }
+    ensures clock { OnOk result (page.new.clock ≡ page.old.clock) }
+    ensures grows { StartsWith out.new.items out.old.items }
+{
+    match event {
+        Some(event) => page.post_change(component, event, out),
+        None => Ok(()),
     }
 }
 

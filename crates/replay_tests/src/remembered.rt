@@ -103,7 +103,7 @@ impl Shown {
     fn take(&mut self, sent: &Sent) -> Result<(), Unbuilt> {
         let section = sent.section(self.alloc)?;
         let changes = self.modules.feed(COMPONENT, section.as_slice())?;
-        for change in &changes {
+        for change in &changes.modules {
             self.page.post_change(COMPONENT, change, &mut self.out)?;
         }
         self.page.turn(&mut self.modules, &mut self.out)?;

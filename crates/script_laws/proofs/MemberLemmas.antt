@@ -320,6 +320,8 @@ module _ (s : Setting) where
   operated-simple heap the.GreaterOrEqual left right = refl
   operated-simple heap the.Equal left right = refl
   operated-simple heap the.NotEqual left right = refl
+  operated-simple heap the.StrictEqual left right = refl
+  operated-simple heap the.StrictNotEqual left right = refl
   operated-simple heap the.BitAnd left right = refl
   operated-simple heap the.BitXor left right = refl
   operated-simple heap the.BitOr left right = refl

@@ -2,7 +2,7 @@
 
 use crate::lines::Line;
 use bml_bytes::{NoMemory, read_decimal};
-use es_frames::Frames;
+use es_frames::{Frames, MOST_CALLS};
 use es_values::{Num, Value};
 use std::alloc::Global;
 
@@ -29,7 +29,7 @@ fn push_number(number: Option<u32>, out: &mut Line) {
 
 // Adds a frame with two values.
 fn call(frames: &mut Frames<u32>, this: u32) -> Result<(), NoMemory> {
-    if frames.depth() <= 64 {
+    if frames.depth() <= MOST_CALLS {
         frames.push(2, number_value(this))?;
     }
     Ok(())

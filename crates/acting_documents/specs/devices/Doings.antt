@@ -24,6 +24,14 @@ pub record Does (effect : Scene → Effect) (old new : KeptDocument) (before aft
   pub printed : after ≡ before ++ text
   pub does : (s : Scene) → IsScene old s → HasDone new text (effect s)
 
+-- The same of what is done in a document that ends: which document was launched is left open.
+pub record DoesInEnding (effect : Scene → Effect) (old new : KeptDocument) (before after : List ℕ)
+    : Type 0 where
+  pub text : List ℕ
+  pub printed : after ≡ before ++ text
+  pub leaves : (s : Scene) → IsScene old s → IsScene new (effect s).scene
+  pub tells : (s : Scene) → IsScene old s → text ≡ (effect s).text
+
 -- it is lent these modules
 abbrev pub lent_modules : ModulesState → KeptDocument → KeptDocument
 lent_modules modules kept = record kept { modules = modules }

@@ -12,7 +12,7 @@ ghost use Rattle.es_values.specs.declared.numbers.Num.TheVariants.{NotANumber};
 ghost use Rattle.es_values.specs.declared.values.Value.TheVariants.{Number};
 ghost use Rattle.browser_objects.specs.Calls.{Answers, call_of, table_opened};
 ghost use Rattle.dom_objects.specs.Reads.{read_value};
-ghost use Rattle.document_stages.specs.Acting.{browser_value as spec_browser_value, document_call, first_argument, is_subscription, is_unload, launch, node_call, parts_of, member_value, register_value as spec_register_value, with_text_written, with_browser, with_line, with_member_set};
+ghost use Rattle.document_stages.specs.Acting.{browser_value as spec_browser_value, document_call, first_argument, is_ending, is_subscription, launch, node_call, parts_of, member_value, register_value as spec_register_value, with_text_written, with_browser, with_line, with_member_set};
 ghost use Rattle.document_stages.specs.EventLines.{kept_line, sound_line};
 
 use crate::event_lines::{push_kept_line, push_launch_line, push_sound_line};
@@ -218,7 +218,8 @@ impl Stage {
         Ok(HostAnswer::Value(value))
     }
 
-    /// A script launches the document at a path, which ends this one. The handler of `unload` can't.
+    /// A script launches the document at a path, which ends this one. A handler that runs because the
+    /// document ends can't: that of `unload`, or one of a data event.
     pub(crate) fn launch(&mut self, path: Path) -> Result<HostAnswer, NoMemory>
         ensures answer { (heap : List ObjectState) → IfOk result (λ answer. answer
             ≡ (launch path self.old.acting heap).answer) }
@@ -226,7 +227,7 @@ impl Stage {
             ≡ (launch path self.old.acting heap).acting) }
         ensures safe { (heap : List ObjectState) → IfOk result (λ answer. IsAnswer heap answer) }
     {
-        if self.is_unloading() {
+        if self.is_ending() {
             return Ok(refusal());
         }
         push_launch_line(&path, &mut self.text)?;
@@ -234,11 +235,11 @@ impl Stage {
         Ok(HostAnswer::Ended)
     }
 
-    // Whether the handler of `unload` runs.
-    fn is_unloading(&self) -> bool
-        ensures { result ≡ is_unload self.now.acting.event.event }
+    // Whether a handler runs because the document ends.
+    fn is_ending(&self) -> bool
+        ensures { result ≡ is_ending self.now.acting.event.event }
     {
-        matches!(&self.event.event, Some(Event::Unload))
+        matches!(&self.event.event, Some(Event::Unload | Event::DataEvent(_)))
     }
 
     /// Whether there is a node of this number, and it is an element.

@@ -1,7 +1,8 @@
 //! What is posted for the event items of a document.
 
-ghost use Rattle.std.specs.Prelude.{◌≡◌, ◌==◌, if◌then◌else◌, OnOk, slice_get};
+ghost use Rattle.std.specs.Prelude.{◌≡◌, ◌==◌, if◌then◌else◌, IfOk, OnOk, map, slice_get};
 ghost use Rattle.std.specs.Option.{option_map_or};
+ghost use Rattle.event_items.specs.Subscriptions.{data_event_items};
 ghost use Rattle.focus_keys.specs.KeyTables.{key_number};
 ghost use Rattle.focus_keys.specs.declared.keys.Key.TheVariants as keys;
 ghost use Rattle.document_stages.specs.Acting.{button_posts, button_post, change_posts, each_item, with_item_fired, lock_post, lock_posts, message_posts, message_post, module_post, update_posts};
@@ -186,6 +187,14 @@ impl Stage {
             return Ok(());
         }
         self.tell_all_button()
+    }
+
+    /// The items that fire for a data event now: the first 256 in document order.
+    pub fn data_event_items(&self) -> Result<Vec<NodeId>, NoMemory>
+        ensures { IfOk result (λ nodes. map (λ node. node.0) nodes.items
+            ≡ data_event_items self.now.acting.items) }
+    {
+        self.items.data_event_items(self.alloc)
     }
 
     // Each item that fires for the data button posts its event, in document order.

@@ -12,6 +12,7 @@ use Rattle.es_values.specs.declared.values.Value.TheVariants.{Undefined, Object}
 use Rattle.es_values.specs.Charges.{begun_sixteens}
 use Rattle.es_values.specs.Heaps.{IsLive, names_of, object_at}
 use Rattle.es_values.specs.Objects.{ObjectState}
+use Rattle.es_frames.specs.Depth.{most_calls}
 use Rattle.es_shapes.specs.declared.codes.Listing.TheVariants.{Top}
 use Rattle.es_eval.specs.declared.outcomes.Outcome.TheVariants.{Normal as AtEnd, Ended, Stopped}
 use Rattle.es_eval.specs.declared.outcomes.StopCause.TheVariants.{Budget, NotCallable, Unresolved}
@@ -224,7 +225,7 @@ pub record IsMachine (m : MachineState) : Type 0 where
   pub globals : All (IsNamedLive m.heap) m.globals
   pub frames : All (IsFrameLive m.heap) m.frames
   pub some : 1 ≤ length m.frames
-  pub depth : length m.frames ≤ 65
+  pub depth : length m.frames ≤ most_calls + 1
   pub steps : m.left ≤ 100000
 
 -- ---- how much is left to be done

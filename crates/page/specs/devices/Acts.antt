@@ -56,6 +56,20 @@ pub record Acts (effect : Scene → Effect) (launched : Option Path) (now : ℕ)
   pub acts : (s : Scene) → IsScene (with_lent old lent now) s
       → HasActed launched new given_back text (effect s)
 
+-- The document ended: this is given back and printed behind what it did.
+pub record HasEnded (given_back : Lent) (text : List ℕ) (e : Effect) : Type 0 where
+  pub browser_is : given_back.browser ≡ e.scene.browser
+  pub modules : StandsFor given_back.modules e.scene.modules
+  pub text_is : text ≡ e.text
+
+-- A text was printed, and whatever document was kept, it did this at that time with what it was lent, and ended.
+pub record Ends (effect : Scene → Effect) (now : ℕ) (old : KeptDocument)
+    (lent given_back : Lent) (before after : List ℕ) : Type 0 where
+  pub text : List ℕ
+  pub printed : after ≡ before ++ text
+  pub ends : (s : Scene) → IsScene (with_lent old lent now) s
+      → HasEnded given_back text (effect s)
+
 -- The same of what does nothing with the modules and launches nothing: whatever modules it is lent.
 abbrev pub ActsApart : (Scene → Effect) → ℕ → KeptDocument → KeptDocument → BrowserParts
     → BrowserParts → List ℕ → List ℕ → Type 0

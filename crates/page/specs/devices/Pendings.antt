@@ -1,12 +1,14 @@
 -- A device of the proofs: what is kept of a document that is wanted, and what comes of its load, whatever the
 -- state stands for.
-use Rattle.std.specs.Prelude.{◌≡◌, ◌==◌, ◌&&◌, Bool, false, if◌then◌else◌, ℕ, List, [], ◌∷◌, ◌++◌, length, map, option_to_list, replicate, slice_get, Option, Some, None, Result, Ok, Err}
+use Rattle.std.specs.Prelude.{◌≡◌, ◌==◌, ◌&&◌, ◌||◌, Bool, false, true, if◌then◌else◌, ℕ, List, [], ◌∷◌, ◌++◌, length, map, option_and_then, option_to_list, replicate, slice_get, Option, Some, None, Result, Ok, Err}
 use Rattle.bml_reader.specs.declared.faults.DocFault.{DocFault}
+use Rattle.carousel_blocks.specs.DataEvents.{is_data_event}
 use Rattle.carousel_blocks.specs.declared.changes.Change.{Change}
 use Rattle.multipart_entities.specs.declared.paths.Path.{Path}
 use Rattle.module_locks.specs.Histories.{Happening, behind_all}
 use Rattle.module_locks.specs.Locks.{Modules, look_up}
-use Rattle.module_store.specs.Resources.Resource.{Waiting}
+use Rattle.module_store.specs.Resources.{Resource}
+use Rattle.module_store.specs.Resources.Resource.{Found, Missing, Waiting}
 use Rattle.module_locks.specs.Standing.{ForModules, ModulesState}
 use Rattle.es_reader.specs.Readers.{Reader, IsReader}
 use Rattle.document_load.specs.Drafts.{DraftState, with_gifts}
@@ -47,10 +49,11 @@ IsCurrent modules _ = Unit {0}
 
 -- ---- what changes tell of it
 
--- a document was read, and this change in a component is of its module
+-- a document was read, and this change in a component is of its module, or is that of a data event, at which locks end
 abbrev pub is_told_by : ℕ → Change → Loading → Bool
 is_told_by component change (kept.Pending pending) =
-    (pending.path.component == component) && (change.«module» == pending.path.«module»)
+    is_data_event change
+    || ((pending.path.component == component) && (change.«module» == pending.path.«module»))
 is_told_by component change _ = false
 
 -- it is wanted, and wasn't read
@@ -70,6 +73,19 @@ loading_behind_all (change ∷ changes) loading =
     loading_behind_all changes (loading_behind change.0 change.1 loading)
 
 -- ---- a load
+
+-- something is found
+abbrev pub is_there : Resource → Bool
+is_there (Found bytes) = true
+is_there Waiting = false
+is_there Missing = false
+
+-- A document is wanted; or nothing can be loaded of what is wanted, if anything is.
+abbrev pub MayLoad : Bool → ModulesState → Loading → Type 0
+MayLoad true state loading = loading ≡ kept.Nothing → ⊥
+MayLoad false state loading =
+    ForModules state (λ modules.
+    option_and_then (loadable_reading modules) (wanted_path (wanted_of loading) modules) ≡ None)
 
 -- the need at this place is waited for
 pub record WaitsAt (state : ModulesState) (needs : List Path) (place : ℕ) : Type 0 where

@@ -6,5 +6,5 @@ use Rattle.dom_objects.proofs.events.event_value.Goals as goal
 
 pub ascii_text-requires : goal.ascii_text-requires
 ascii_text-requires c =
-    All-same (λ (byte : ℕ). byte < 128) c.as_bytes.result.now (name_of c.in-Some.current)
-    (c.as_bytes.ensures.value ∙ c.name.ensures) (ascii-name c.in-Some.current)
+    All-same (λ (byte : ℕ). byte < 128) c.as_bytes.result.now (name_of c.in-Some.current.now)
+    (c.as_bytes.ensures.value ∙ c.name.ensures) (ascii-name c.in-Some.current.now)

@@ -5,8 +5,8 @@ use Rattle.module_locks.proofs.KeptLaws.{kept_behind, kept_locked, kept_unlocked
 use Rattle.module_locks.proofs.laws.law_of_kept_modules.Goals as goal
 
 pub returns-clause-sections : goal.returns-clause-sections
-returns-clause-sections c = λ modules component section its_component number kept e.
-    kept_behind modules component section its_component number kept e
+returns-clause-sections c = λ modules component section its_component number kept no_event e.
+    kept_behind modules component section its_component number kept no_event e
 
 pub returns-clause-locks : goal.returns-clause-locks
 unfolding with_lock

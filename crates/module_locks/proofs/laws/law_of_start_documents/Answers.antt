@@ -7,8 +7,8 @@ use Rattle.module_locks.proofs.KeptLaws.{start_behind}
 use Rattle.module_locks.proofs.laws.law_of_start_documents.Goals as goal
 
 pub returns-clause-sections : goal.returns-clause-sections
-returns-clause-sections c = λ modules component section quiet.
-    start_behind modules component section (λ still. c.law_of_start_paths.ensures.sections modules.stored component section still) quiet
+returns-clause-sections c = λ modules component section no_event quiet.
+    start_behind modules component section (λ still. c.law_of_start_paths.ensures.sections modules.stored component section still) no_event quiet
 
 pub returns-clause-maps : goal.returns-clause-maps
 returns-clause-maps c = λ modules components apart stays.

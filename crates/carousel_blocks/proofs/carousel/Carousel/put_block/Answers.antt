@@ -16,15 +16,15 @@ pub returns-clause-taken : goal.returns-clause-taken
 returns-clause-taken c =
     let b = c.self.inside in
     both c.put_block.result c.put_block.ensures.kept c.put_block.ensures.answer (λ kept put is.
-    takes_block_by b.transaction b.modules b.buffers c.put_block.new.buffers (fields_of c.args.ddb.now) put c.args.self.now c.self.view_is kept is)
+    takes_block_by b.transaction b.download b.modules b.buffers c.put_block.new.buffers (fields_of c.args.ddb.now) put c.args.self.now c.self.view_is kept is)
 
 pub returns-clause-same : goal.returns-clause-same
 returns-clause-same c =
     let b = c.self.inside in
-    on_err_weaker c.put_block.result (λ same. keeps_same_by b.transaction b.modules b.buffers c.put_block.new.buffers c.args.self.now c.self.view_is (record { are = c.put_block.ensures.are; same = same })) c.put_block.ensures.same
+    on_err_weaker c.put_block.result (λ same. keeps_same_by b.transaction b.download b.modules b.buffers c.put_block.new.buffers c.args.self.now c.self.view_is (record { are = c.put_block.ensures.are; same = same })) c.put_block.ensures.same
 
 pub returns-clause-back : goal.returns-clause-back
 returns-clause-back c =
     let b = c.self.inside in
     both c.put_block.result c.put_block.ensures.kept c.put_block.ensures.answer (λ kept put is number later completed back.
-    kept_back b.transaction b.modules b.buffers c.put_block.new.buffers c.args.self.now c.self.view_is c.self.invariant (fields_of c.args.ddb.now) put number later kept is completed back)
+    kept_back b.transaction b.download b.modules b.buffers c.put_block.new.buffers c.args.self.now c.self.view_is c.self.invariant (fields_of c.args.ddb.now) put number later kept is completed back)

@@ -16,7 +16,7 @@ returns-in-Ok-clause-block c =
 
 pub returns-in-Err-clause-block : goal.returns-in-Err-clause-block
 returns-in-Err-clause-block c =
-    subst (λ (carried : Result DataBlock TableFault). TakesBackBy carried c.args.self.now c.args.self.now) c.in-Err.ensures.reading (record { transaction = refl; modules = λ number. refl })
+    subst (λ (carried : Result DataBlock TableFault). TakesBackBy carried c.args.self.now c.args.self.now) c.in-Err.ensures.reading (record { transaction = refl; download = refl; modules = λ number. refl })
 
 pub returns-in-Ok-clause-before : goal.returns-in-Ok-clause-before
 returns-in-Ok-clause-before c = λ messages number bytes made stands.

@@ -5,4 +5,4 @@ use Rattle.carousel_blocks.proofs.carousel.Carousel.take_block_back.Goals as goa
 pub returns : goal.returns
 returns c =
     let b = c.self.inside in
-    takes_back_by b.transaction b.modules b.buffers c.take_back.new.buffers c.args.self.now c.self.view_is (fields_of c.args.ddb.now) c.take_back.ensures.kept
+    takes_back_by b.transaction b.download b.modules b.buffers c.take_back.new.buffers c.args.self.now c.self.view_is (fields_of c.args.ddb.now) c.take_back.ensures.kept

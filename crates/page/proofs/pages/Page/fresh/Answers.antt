@@ -8,6 +8,7 @@ returns-clause-stands c = λ read right modules stands. record {
   reader = right;
   document = tt;
   wanted = refl;
+  data_event = refl;
   current = tt;
   clock = refl;
   browser = search rules;
